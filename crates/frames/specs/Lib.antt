@@ -1,0 +1,9 @@
+pub mod Codes
+pub mod Cut
+pub mod Header
+pub mod Octets
+pub mod Parse
+pub mod Read
+pub mod Settings
+pub mod View
+pub mod Write
