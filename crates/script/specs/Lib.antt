@@ -1,0 +1,4 @@
+pub mod Decoded
+pub mod Lines
+pub mod Text
+pub mod Words

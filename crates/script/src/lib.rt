@@ -1,0 +1,6 @@
+// The script language of the rig: what one line of a script asks for.
+pub mod hex;
+pub mod line;
+pub mod number;
+pub mod problem;
+pub mod word;
