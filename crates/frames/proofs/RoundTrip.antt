@@ -45,7 +45,7 @@ pub number31-back : (n : ℕ) → n < 2147483648
 number31-back n h =
     let same : n % 2147483648 ≡ n = omega arith in
     let whole : number32 (n % 2147483648 / 16777216 % 256) (n % 2147483648 / 65536 % 256) (n % 2147483648 / 256 % 256) (n % 2147483648 % 256) ≡ n % 2147483648 =
-        number32-back (n % 2147483648) (omega arith) in
+    number32-back (n % 2147483648) (omega arith) in
     ap (λ (m : ℕ). m % 2147483648) (whole ∙ same) ∙ same
 
 -- behind a header of a lawful length stands its payload

@@ -30,21 +30,21 @@ code-number Http11Required = 13
 -- the code that a number stands for, if it has a name
 abbrev pub code-of : ℕ → Option ErrorCode
 code-of n =
-  cond (eqb n 0) (Some NoError)
-  (cond (eqb n 1) (Some ProtocolError)
-  (cond (eqb n 2) (Some InternalError)
-  (cond (eqb n 3) (Some FlowControlError)
-  (cond (eqb n 4) (Some SettingsTimeout)
-  (cond (eqb n 5) (Some StreamClosed)
-  (cond (eqb n 6) (Some FrameSizeError)
-  (cond (eqb n 7) (Some RefusedStream)
-  (cond (eqb n 8) (Some Cancel)
-  (cond (eqb n 9) (Some CompressionError)
-  (cond (eqb n 10) (Some ConnectError)
-  (cond (eqb n 11) (Some EnhanceYourCalm)
-  (cond (eqb n 12) (Some InadequateSecurity)
-  (cond (eqb n 13) (Some Http11Required)
-  None)))))))))))))
+    cond (eqb n 0) (Some NoError)
+    (cond (eqb n 1) (Some ProtocolError)
+    (cond (eqb n 2) (Some InternalError)
+    (cond (eqb n 3) (Some FlowControlError)
+    (cond (eqb n 4) (Some SettingsTimeout)
+    (cond (eqb n 5) (Some StreamClosed)
+    (cond (eqb n 6) (Some FrameSizeError)
+    (cond (eqb n 7) (Some RefusedStream)
+    (cond (eqb n 8) (Some Cancel)
+    (cond (eqb n 9) (Some CompressionError)
+    (cond (eqb n 10) (Some ConnectError)
+    (cond (eqb n 11) (Some EnhanceYourCalm)
+    (cond (eqb n 12) (Some InadequateSecurity)
+    (cond (eqb n 13) (Some Http11Required)
+    None)))))))))))))
 
 -- the octet of each frame type
 abbrev pub kind-number : Kind → ℕ
@@ -63,17 +63,17 @@ kind-number (Unknown n) = n
 -- the frame type of each octet
 abbrev pub kind-of : ℕ → Kind
 kind-of n =
-  cond (eqb n 0) Data
-  (cond (eqb n 1) Headers
-  (cond (eqb n 2) Priority
-  (cond (eqb n 3) RstStream
-  (cond (eqb n 4) Settings
-  (cond (eqb n 5) PushPromise
-  (cond (eqb n 6) Ping
-  (cond (eqb n 7) GoAway
-  (cond (eqb n 8) WindowUpdate
-  (cond (eqb n 9) Continuation
-  (Unknown n))))))))))
+    cond (eqb n 0) Data
+    (cond (eqb n 1) Headers
+    (cond (eqb n 2) Priority
+    (cond (eqb n 3) RstStream
+    (cond (eqb n 4) Settings
+    (cond (eqb n 5) PushPromise
+    (cond (eqb n 6) Ping
+    (cond (eqb n 7) GoAway
+    (cond (eqb n 8) WindowUpdate
+    (cond (eqb n 9) Continuation
+    (Unknown n))))))))))
 
 -- whether a flag is set: END_STREAM and ACK are bit 1, END_HEADERS 4, PADDED 8, PRIORITY 32
 abbrev pub flag : ℕ → ℕ → Bool

@@ -27,9 +27,9 @@ longest = 16384
 abbrev pub cut-after : Option (Header × List ℕ) → Piece
 cut-after None = refused Incomplete
 cut-after (Some p) =
-  cond (ltb longest (p .0 .length)) (faulty (record { scope = Connection; code = FrameSizeError; place = p .0 .stream }))
-  (cond (ltb (length (p .1)) (p .0 .length)) (refused Incomplete)
-  (whole-frame (p .0) (take (p .0 .length) (p .1))))
+    cond (ltb longest (p .0 .length)) (faulty (record { scope = Connection; code = FrameSizeError; place = p .0 .stream }))
+    (cond (ltb (length (p .1)) (p .0 .length)) (refused Incomplete)
+    (whole-frame (p .0) (take (p .0 .length) (p .1))))
 
 -- are nine octets there? then the rest is asked
 abbrev pub cut-of : List ℕ → Piece

@@ -14,8 +14,8 @@ header-of xs = record {
   length = number24 (getD xs 0 0) (getD xs 1 0) (getD xs 2 0);
   kind = kind-of (getD xs 3 0);
   flags = record { bits = getD xs 4 0 };
-  stream = number31 (getD xs 5 0) (getD xs 6 0) (getD xs 7 0) (getD xs 8 0)
-  }
+  stream = number31 (getD xs 5 0) (getD xs 6 0) (getD xs 7 0) (getD xs 8 0);
+}
 
 -- the header and what stands behind it, if nine octets are given
 abbrev pub split-header : List ℕ → Option (Header × List ℕ)

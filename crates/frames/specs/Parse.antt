@@ -63,46 +63,46 @@ without-priority false xs = Ok xs
 -- DATA: not on stream 0 or an idle one; padding
 abbrev pub read-data : Header → List ℕ → ℕ → Result Said ErrorCode
 read-data h xs seen =
-  breaks (idle (h .stream) seen) ProtocolError
-  (then (unpadded (is-padded h) xs) (λ octets.
-  Ok (says-data (h .stream) octets (length xs) (ends-stream h))))
+    breaks (idle (h .stream) seen) ProtocolError
+    (then (unpadded (is-padded h) xs) (λ octets.
+    Ok (says-data (h .stream) octets (length xs) (ends-stream h))))
 
 -- HEADERS: not on an even stream; padding; then the priority octets
 abbrev pub read-headers : Header → List ℕ → Result Said ErrorCode
 read-headers h xs =
-  breaks (eqb (h .stream % 2) 0) ProtocolError
-  (then (unpadded (is-padded h) xs) (λ rest.
-  then (without-priority (has-priority h) rest) (λ fragment.
-  Ok (says-headers (h .stream) fragment (ends-headers h) (ends-stream h)))))
+    breaks (eqb (h .stream % 2) 0) ProtocolError
+    (then (unpadded (is-padded h) xs) (λ rest.
+    then (without-priority (has-priority h) rest) (λ fragment.
+    Ok (says-headers (h .stream) fragment (ends-headers h) (ends-stream h)))))
 
 -- RST_STREAM: not on stream 0 or an idle one; four octets
 abbrev pub read-rst-stream : Header → List ℕ → ℕ → Result Said ErrorCode
 read-rst-stream h xs seen =
-  breaks (idle (h .stream) seen) ProtocolError
-  (breaks (not (eqb (length xs) 4)) FrameSizeError
-  (Ok (says-rst-stream (h .stream) (number32 (getD xs 0 0) (getD xs 1 0) (getD xs 2 0) (getD xs 3 0)))))
+    breaks (idle (h .stream) seen) ProtocolError
+    (breaks (not (eqb (length xs) 4)) FrameSizeError
+    (Ok (says-rst-stream (h .stream) (number32 (getD xs 0 0) (getD xs 1 0) (getD xs 2 0) (getD xs 3 0)))))
 
 -- SETTINGS: on stream 0; an ACK is empty; else a list of pairs of six octets
 abbrev pub read-settings : Header → List ℕ → Result Said ErrorCode
 read-settings h xs =
-  breaks (not (eqb (h .stream) 0)) ProtocolError
-  (cond (acknowledges h)
+    breaks (not (eqb (h .stream) 0)) ProtocolError
+    (cond (acknowledges h)
     (breaks (not (eqb (length xs) 0)) FrameSizeError (Ok says-settings-ack))
     (breaks (not (eqb (length xs % 6) 0)) FrameSizeError (Ok (says-settings xs))))
 
 -- PING: on stream 0; eight octets
 abbrev pub read-ping : Header → List ℕ → Result Said ErrorCode
 read-ping h xs =
-  breaks (not (eqb (h .stream) 0)) ProtocolError
-  (breaks (not (eqb (length xs) 8)) FrameSizeError
-  (Ok (cond (acknowledges h) (says-ping-ack xs) (says-ping xs))))
+    breaks (not (eqb (h .stream) 0)) ProtocolError
+    (breaks (not (eqb (length xs) 8)) FrameSizeError
+    (Ok (cond (acknowledges h) (says-ping-ack xs) (says-ping xs))))
 
 -- GOAWAY: on stream 0; at least eight octets
 abbrev pub read-goaway : Header → List ℕ → Result Said ErrorCode
 read-goaway h xs =
-  breaks (not (eqb (h .stream) 0)) ProtocolError
-  (breaks (ltb (length xs) 8) FrameSizeError
-  (Ok (says-goaway
+    breaks (not (eqb (h .stream) 0)) ProtocolError
+    (breaks (ltb (length xs) 8) FrameSizeError
+    (Ok (says-goaway
     (number31 (getD xs 0 0) (getD xs 1 0) (getD xs 2 0) (getD xs 3 0))
     (number32 (getD xs 4 0) (getD xs 5 0) (getD xs 6 0) (getD xs 7 0))
     (drop 8 xs))))
@@ -114,10 +114,10 @@ increment-of xs = number31 (getD xs 0 0) (getD xs 1 0) (getD xs 2 0) (getD xs 3 
 
 abbrev pub read-window-update : Header → List ℕ → ℕ → Result Said ErrorCode
 read-window-update h xs seen =
-  breaks (not (eqb (length xs) 4)) FrameSizeError
-  (breaks (not (eqb (h .stream) 0) && idle (h .stream) seen) ProtocolError
-  (breaks (eqb (h .stream) 0 && eqb (increment-of xs) 0) ProtocolError
-  (Ok (says-window-update (h .stream) (increment-of xs)))))
+    breaks (not (eqb (length xs) 4)) FrameSizeError
+    (breaks (not (eqb (h .stream) 0) && idle (h .stream) seen) ProtocolError
+    (breaks (eqb (h .stream) 0 && eqb (increment-of xs) 0) ProtocolError
+    (Ok (says-window-update (h .stream) (increment-of xs)))))
 
 -- each type by its own rules; PUSH_PROMISE never comes from a client; PRIORITY and unknown types have none
 abbrev pub read-by-kind : Kind → Header → List ℕ → ℕ → Result Said ErrorCode

@@ -30,14 +30,14 @@ name-number (Unknown n) = n
 -- the setting of each number
 abbrev pub name-of : ℕ → SettingName
 name-of n =
-  cond (eqb n 1) HeaderTableSize
-  (cond (eqb n 2) EnablePush
-  (cond (eqb n 3) MaxConcurrentStreams
-  (cond (eqb n 4) InitialWindowSize
-  (cond (eqb n 5) MaxFrameSize
-  (cond (eqb n 6) MaxHeaderListSize
-  (cond (eqb n 9) NoRfc7540Priorities
-  (Unknown n)))))))
+    cond (eqb n 1) HeaderTableSize
+    (cond (eqb n 2) EnablePush
+    (cond (eqb n 3) MaxConcurrentStreams
+    (cond (eqb n 4) InitialWindowSize
+    (cond (eqb n 5) MaxFrameSize
+    (cond (eqb n 6) MaxHeaderListSize
+    (cond (eqb n 9) NoRfc7540Priorities
+    (Unknown n)))))))
 
 -- a connection fault on stream 0, where all settings come
 abbrev pub fault-when : Bool → ErrorCode → Option Fault
@@ -61,8 +61,8 @@ setting-fault s = out-of-range (s .name) (s .value)
 abbrev pub setting-of : List ℕ → Setting
 setting-of xs = record {
   name = name-of (number16 (getD xs 0 0) (getD xs 1 0));
-  value = number32 (getD xs 2 0) (getD xs 3 0) (getD xs 4 0) (getD xs 5 0)
-  }
+  value = number32 (getD xs 2 0) (getD xs 3 0) (getD xs 4 0) (getD xs 5 0);
+}
 
 -- the first pair and what stands behind it, if six octets are left
 abbrev pub first-pair : List ℕ → Option (Setting × List ℕ)

@@ -61,9 +61,9 @@ payload-sent (sends-data stream n end) = []
 -- a header and octets at the front of a buffer, if the payload may be so long and the buffer has room; else nothing changes
 abbrev pub put : Header → List ℕ → List ℕ → Result ℕ Unwritten × List ℕ
 put header xs buffer =
-  cond (ltb longest (header .length)) (Err TooLong, buffer)
-  (cond (ltb (length buffer) (9 + length xs)) (Err NoRoom, buffer)
-  (Ok (9 + length xs), header-octets header ++ (xs ++ drop (9 + length xs) buffer)))
+    cond (ltb longest (header .length)) (Err TooLong, buffer)
+    (cond (ltb (length buffer) (9 + length xs)) (Err NoRoom, buffer)
+    (Ok (9 + length xs), header-octets header ++ (xs ++ drop (9 + length xs) buffer)))
 
 abbrev pub written : Sent → List ℕ → Result ℕ Unwritten × List ℕ
 written s buffer = put (header-sent s) (payload-sent s) buffer

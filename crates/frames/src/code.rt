@@ -1,6 +1,7 @@
 // The error codes of HTTP/2, by their names.
 ghost use mathlib.Core.Path.{_≡_};
 ghost use Rattle.frames.specs.Codes.{code-number, code-of};
+use std::fmt;
 
 #[derive(Clone, Copy, PartialEq, Eq, Debug)]
 pub enum ErrorCode {
@@ -64,5 +65,28 @@ impl ErrorCode {
             13 => Some(ErrorCode::Http11Required),
             _ => None,
         }
+    }
+}
+
+pub impl fmt::Display for ErrorCode as ErrorCodeDisplay {
+    fn fmt<W: fmt::Write>(&self, f: &mut fmt::Formatter<W>) -> fmt::Result {
+        f.write_str(
+            match *self {
+                ErrorCode::NoError => "NO_ERROR",
+                ErrorCode::ProtocolError => "PROTOCOL_ERROR",
+                ErrorCode::InternalError => "INTERNAL_ERROR",
+                ErrorCode::FlowControlError => "FLOW_CONTROL_ERROR",
+                ErrorCode::SettingsTimeout => "SETTINGS_TIMEOUT",
+                ErrorCode::StreamClosed => "STREAM_CLOSED",
+                ErrorCode::FrameSizeError => "FRAME_SIZE_ERROR",
+                ErrorCode::RefusedStream => "REFUSED_STREAM",
+                ErrorCode::Cancel => "CANCEL",
+                ErrorCode::CompressionError => "COMPRESSION_ERROR",
+                ErrorCode::ConnectError => "CONNECT_ERROR",
+                ErrorCode::EnhanceYourCalm => "ENHANCE_YOUR_CALM",
+                ErrorCode::InadequateSecurity => "INADEQUATE_SECURITY",
+                ErrorCode::Http11Required => "HTTP_1_1_REQUIRED",
+            },
+        )
     }
 }

@@ -43,7 +43,11 @@ pub fn cut_frame(octets: &[u8]) -> Cut<'_>
         return Cut::Refused(Refusal::Incomplete);
     };
     if header.length > LONGEST {
-        return Cut::Faulty(Fault { scope: Scope::Connection, code: ErrorCode::FrameSizeError, place: header.stream });
+        return Cut::Faulty(Fault {
+            scope: Scope::Connection,
+            code: ErrorCode::FrameSizeError,
+            place: header.stream,
+        });
     }
     let length = header.length as usize;
     if rest.len() < length {

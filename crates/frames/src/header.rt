@@ -41,6 +41,16 @@ impl Header {
     {
         let [_, l0, l1, l2] = self.length.to_be_bytes();
         let [s0, s1, s2, s3] = (self.stream % 0x8000_0000).to_be_bytes();
-        [l0, l1, l2, self.kind.number(), self.flags.bits, s0, s1, s2, s3]
+        [
+            l0,
+            l1,
+            l2,
+            self.kind.number(),
+            self.flags.bits,
+            s0,
+            s1,
+            s2,
+            s3,
+        ]
     }
 }

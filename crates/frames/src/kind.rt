@@ -1,6 +1,7 @@
 // The types of frames.
 ghost use mathlib.Core.Path.{_≡_};
 ghost use Rattle.frames.specs.Codes.{kind-number, kind-of};
+use std::fmt;
 
 #[derive(Clone, Copy, PartialEq, Eq, Debug)]
 pub enum Kind {
@@ -53,6 +54,24 @@ impl Kind {
             Kind::WindowUpdate => 8,
             Kind::Continuation => 9,
             Kind::Unknown(octet) => octet,
+        }
+    }
+}
+
+pub impl fmt::Display for Kind as KindDisplay {
+    fn fmt<W: fmt::Write>(&self, f: &mut fmt::Formatter<W>) -> fmt::Result {
+        match *self {
+            Kind::Data => f.write_str("DATA"),
+            Kind::Headers => f.write_str("HEADERS"),
+            Kind::Priority => f.write_str("PRIORITY"),
+            Kind::RstStream => f.write_str("RST_STREAM"),
+            Kind::Settings => f.write_str("SETTINGS"),
+            Kind::PushPromise => f.write_str("PUSH_PROMISE"),
+            Kind::Ping => f.write_str("PING"),
+            Kind::GoAway => f.write_str("GOAWAY"),
+            Kind::WindowUpdate => f.write_str("WINDOW_UPDATE"),
+            Kind::Continuation => f.write_str("CONTINUATION"),
+            Kind::Unknown(octet) => write!(f, "type {octet}"),
         }
     }
 }

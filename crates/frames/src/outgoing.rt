@@ -17,14 +17,33 @@ pub enum Outgoing<'a> {
     // Ours: at most 16 concurrent streams, and no old priorities.
     Settings,
     SettingsAck,
-    PingAck { octets: [u8; 8] },
-    RstStream { stream: u32, code: ErrorCode },
-    WindowUpdate { stream: u32, increment: u32 },
-    GoAway { last: u32, code: ErrorCode },
+    PingAck {
+        octets: [u8; 8],
+    },
+    RstStream {
+        stream: u32,
+        code: ErrorCode,
+    },
+    WindowUpdate {
+        stream: u32,
+        increment: u32,
+    },
+    GoAway {
+        last: u32,
+        code: ErrorCode,
+    },
     // A whole field block.
-    Headers { stream: u32, block: &'a [u8], end_stream: bool },
+    Headers {
+        stream: u32,
+        block: &'a [u8],
+        end_stream: bool,
+    },
     // Only the header: the payload of `length` octets is filled in behind it.
-    DataHeader { stream: u32, length: u32, end_stream: bool },
+    DataHeader {
+        stream: u32,
+        length: u32,
+        end_stream: bool,
+    },
 }
 
 // Why a frame was not written; the buffer is as it was.
@@ -69,13 +88,28 @@ fn put_octets(buffer: &mut [u8], header: Header, octets: &[u8]) -> Result<usize,
 }
 
 // Writes a frame with its whole payload to the front of the buffer.
-fn put_frame(buffer: &mut [u8], kind: Kind, flags: u8, stream: u32, payload: &[u8]) -> Result<usize, Unwritten>
+fn put_frame(
+    buffer: &mut [u8],
+    kind: Kind,
+    flags: u8,
+    stream: u32,
+    payload: &[u8],
+) -> Result<usize, Unwritten>
     ensures { λ r. ⌜ (r, now (buffer .exit)) ≡ put (header-for kind flags stream (length (now (payload .entry)))) (now (payload .entry)) (now (buffer .entry)) ⌝ }
 {
     let Ok(length) = u32::try_from(payload.len()) else {
         return Err(Unwritten::TooLong);
     };
-    put_octets(buffer, Header { length, kind, flags: Flags { bits: flags }, stream }, payload)
+    put_octets(
+        buffer,
+        Header {
+            length,
+            kind,
+            flags: Flags { bits: flags },
+            stream,
+        },
+        payload,
+    )
 }
 
 impl Outgoing<'_> {
@@ -84,25 +118,74 @@ impl Outgoing<'_> {
         ensures { λ r. ⌜ (r, now (buffer .exit)) ≡ written (sent (self .entry)) (now (buffer .entry)) ⌝ }
     {
         match self {
-            Outgoing::Settings => put_frame(buffer, Kind::Settings, Flags::NONE, 0, &our_settings()),
+            Outgoing::Settings => put_frame(
+                buffer,
+                Kind::Settings,
+                Flags::NONE,
+                0,
+                &our_settings(),
+            ),
             Outgoing::SettingsAck => put_frame(buffer, Kind::Settings, Flags::ACK, 0, &[]),
             Outgoing::PingAck { octets } => put_frame(buffer, Kind::Ping, Flags::ACK, 0, &octets),
             Outgoing::RstStream { stream, code } => {
-                put_frame(buffer, Kind::RstStream, Flags::NONE, stream, &code.number().to_be_bytes())
+                put_frame(
+                    buffer,
+                    Kind::RstStream,
+                    Flags::NONE,
+                    stream,
+                    &code.number().to_be_bytes(),
+                )
             }
             Outgoing::WindowUpdate { stream, increment } => {
-                put_frame(buffer, Kind::WindowUpdate, Flags::NONE, stream, &(increment % 0x8000_0000).to_be_bytes())
+                put_frame(
+                    buffer,
+                    Kind::WindowUpdate,
+                    Flags::NONE,
+                    stream,
+                    &(increment % 0x8000_0000).to_be_bytes(),
+                )
             }
             Outgoing::GoAway { last, code } => {
-                put_frame(buffer, Kind::GoAway, Flags::NONE, 0, &eight(last % 0x8000_0000, code.number()))
+                put_frame(
+                    buffer,
+                    Kind::GoAway,
+                    Flags::NONE,
+                    0,
+                    &eight(last % 0x8000_0000, code.number()),
+                )
             }
-            Outgoing::Headers { stream, block, end_stream } => {
-                let flags = if end_stream { Flags::END_HEADERS | Flags::END_STREAM } else { Flags::END_HEADERS };
+            Outgoing::Headers {
+                stream,
+                block,
+                end_stream,
+            } => {
+                let flags = if end_stream {
+                    Flags::END_HEADERS | Flags::END_STREAM
+                } else {
+                    Flags::END_HEADERS
+                };
                 put_frame(buffer, Kind::Headers, flags, stream, block)
             }
-            Outgoing::DataHeader { stream, length, end_stream } => {
-                let bits = if end_stream { Flags::END_STREAM } else { Flags::NONE };
-                put_octets(buffer, Header { length, kind: Kind::Data, flags: Flags { bits }, stream }, &[])
+            Outgoing::DataHeader {
+                stream,
+                length,
+                end_stream,
+            } => {
+                let bits = if end_stream {
+                    Flags::END_STREAM
+                } else {
+                    Flags::NONE
+                };
+                put_octets(
+                    buffer,
+                    Header {
+                        length,
+                        kind: Kind::Data,
+                        flags: Flags { bits },
+                        stream,
+                    },
+                    &[],
+                )
             }
         }
     }

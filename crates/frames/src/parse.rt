@@ -5,6 +5,7 @@ ghost use Rattle.frames.specs.View.{frame-view, fault-view, octets-view};
 use crate::code::ErrorCode;
 use crate::fault::Fault;
 use crate::fault::Scope;
+use crate::flags::Flags;
 use crate::frame::Frame;
 use crate::header::Header;
 use crate::kind::Kind;
@@ -57,8 +58,13 @@ fn data<'a>(header: Header, payload: &'a [u8], seen: u32) -> Result<Frame<'a>, E
     if is_idle(header.stream, seen) {
         return Err(ErrorCode::ProtocolError);
     }
-    let octets = unpad(header.flags.padded(), payload)?;
-    Ok(Frame::Data { stream: header.stream, octets, counted: payload.len(), end_stream: header.flags.end_stream() })
+    let octets = unpad(header.flags.has(Flags::PADDED), payload)?;
+    Ok(Frame::Data {
+        stream: header.stream,
+        octets,
+        counted: payload.len(),
+        end_stream: header.flags.has(Flags::END_STREAM),
+    })
 }
 
 fn headers<'a>(header: Header, payload: &'a [u8]) -> Result<Frame<'a>, ErrorCode>
@@ -67,13 +73,13 @@ fn headers<'a>(header: Header, payload: &'a [u8]) -> Result<Frame<'a>, ErrorCode
     if header.stream % 2 == 0 {
         return Err(ErrorCode::ProtocolError);
     }
-    let rest = unpad(header.flags.padded(), payload)?;
-    let fragment = skip_priority(header.flags.priority(), rest)?;
+    let rest = unpad(header.flags.has(Flags::PADDED), payload)?;
+    let fragment = skip_priority(header.flags.has(Flags::PRIORITY), rest)?;
     Ok(Frame::Headers {
         stream: header.stream,
         fragment,
-        end_headers: header.flags.end_headers(),
-        end_stream: header.flags.end_stream(),
+        end_headers: header.flags.has(Flags::END_HEADERS),
+        end_stream: header.flags.has(Flags::END_STREAM),
     })
 }
 
@@ -86,7 +92,10 @@ fn rst_stream<'a>(header: Header, payload: &'a [u8], seen: u32) -> Result<Frame<
     let [a, b, c, d] = payload else {
         return Err(ErrorCode::FrameSizeError);
     };
-    Ok(Frame::RstStream { stream: header.stream, code: be32(*a, *b, *c, *d) })
+    Ok(Frame::RstStream {
+        stream: header.stream,
+        code: be32(*a, *b, *c, *d),
+    })
 }
 
 fn settings<'a>(header: Header, payload: &'a [u8]) -> Result<Frame<'a>, ErrorCode>
@@ -95,9 +104,11 @@ fn settings<'a>(header: Header, payload: &'a [u8]) -> Result<Frame<'a>, ErrorCod
     if header.stream != 0 {
         return Err(ErrorCode::ProtocolError);
     }
-    match header.flags.ack() {
+    match header.flags.has(Flags::ACK) {
         true if payload.is_empty() => Ok(Frame::SettingsAck),
-        false if payload.len() % 6 == 0 => Ok(Frame::Settings { list: SettingsList { octets: payload } }),
+        false if payload.len() % 6 == 0 => Ok(Frame::Settings {
+            list: SettingsList { octets: payload },
+        }),
         _ => Err(ErrorCode::FrameSizeError),
     }
 }
@@ -111,7 +122,11 @@ fn ping<'a>(header: Header, payload: &'a [u8]) -> Result<Frame<'a>, ErrorCode>
     let Ok(octets) = <[u8; 8]>::try_from(payload) else {
         return Err(ErrorCode::FrameSizeError);
     };
-    if header.flags.ack() { Ok(Frame::PingAck { octets }) } else { Ok(Frame::Ping { octets }) }
+    if header.flags.has(Flags::ACK) {
+        Ok(Frame::PingAck { octets })
+    } else {
+        Ok(Frame::Ping { octets })
+    }
 }
 
 fn goaway<'a>(header: Header, payload: &'a [u8]) -> Result<Frame<'a>, ErrorCode>
@@ -127,7 +142,11 @@ fn goaway<'a>(header: Header, payload: &'a [u8]) -> Result<Frame<'a>, ErrorCode>
     let [a, b, c, d, e, f, g, h] = fixed else {
         return Err(ErrorCode::FrameSizeError);
     };
-    Ok(Frame::GoAway { last: be31(*a, *b, *c, *d), code: be32(*e, *f, *g, *h), debug })
+    Ok(Frame::GoAway {
+        last: be31(*a, *b, *c, *d),
+        code: be32(*e, *f, *g, *h),
+        debug,
+    })
 }
 
 fn window_update<'a>(header: Header, payload: &'a [u8], seen: u32) -> Result<Frame<'a>, ErrorCode>
@@ -144,7 +163,10 @@ fn window_update<'a>(header: Header, payload: &'a [u8], seen: u32) -> Result<Fra
     } else if is_idle(header.stream, seen) {
         return Err(ErrorCode::ProtocolError);
     }
-    Ok(Frame::WindowUpdate { stream: header.stream, increment })
+    Ok(Frame::WindowUpdate {
+        stream: header.stream,
+        increment,
+    })
 }
 
 fn by_kind<'a>(header: Header, payload: &'a [u8], seen: u32) -> Result<Frame<'a>, ErrorCode>
@@ -162,7 +184,11 @@ fn by_kind<'a>(header: Header, payload: &'a [u8], seen: u32) -> Result<Frame<'a>
         Kind::GoAway => goaway(header, payload),
         Kind::WindowUpdate => window_update(header, payload, seen),
         Kind::Continuation => {
-            Ok(Frame::Continuation { stream, fragment: payload, end_headers: header.flags.end_headers() })
+            Ok(Frame::Continuation {
+                stream,
+                fragment: payload,
+                end_headers: header.flags.has(Flags::END_HEADERS),
+            })
         }
         Kind::Unknown(kind) => Ok(Frame::Unknown { kind, stream }),
     }
@@ -175,6 +201,10 @@ pub fn parse<'a>(header: Header, payload: &'a [u8], seen: u32) -> Result<Frame<'
 {
     match by_kind(header, payload, seen) {
         Ok(frame) => Ok(frame),
-        Err(code) => Err(Fault { scope: Scope::Connection, code, place: header.stream }),
+        Err(code) => Err(Fault {
+            scope: Scope::Connection,
+            code,
+            place: header.stream,
+        }),
     }
 }

@@ -29,7 +29,10 @@ pub fn read_frame(octets: &[u8], seen: u32) -> Reading<'_>
         Cut::Refused(refusal) => Reading::Refused(refusal),
         Cut::Faulty(fault) => Reading::Faulty(fault),
         Cut::Frame { header, payload } => match parse(header, payload, seen) {
-            Ok(frame) => Reading::Frame { frame, length: 9 + payload.len() },
+            Ok(frame) => Reading::Frame {
+                frame,
+                length: 9 + payload.len(),
+            },
             Err(fault) => Reading::Faulty(fault),
         },
     }

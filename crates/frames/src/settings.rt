@@ -6,6 +6,7 @@ use crate::code::ErrorCode;
 use crate::fault::Fault;
 use crate::fault::Scope;
 use crate::octets::be32;
+use std::fmt;
 
 #[derive(Clone, Copy, PartialEq, Eq, Debug)]
 pub enum SettingName {
@@ -53,6 +54,21 @@ impl SettingName {
     }
 }
 
+pub impl fmt::Display for SettingName as SettingNameDisplay {
+    fn fmt<W: fmt::Write>(&self, f: &mut fmt::Formatter<W>) -> fmt::Result {
+        match *self {
+            SettingName::HeaderTableSize => f.write_str("HEADER_TABLE_SIZE"),
+            SettingName::EnablePush => f.write_str("ENABLE_PUSH"),
+            SettingName::MaxConcurrentStreams => f.write_str("MAX_CONCURRENT_STREAMS"),
+            SettingName::InitialWindowSize => f.write_str("INITIAL_WINDOW_SIZE"),
+            SettingName::MaxFrameSize => f.write_str("MAX_FRAME_SIZE"),
+            SettingName::MaxHeaderListSize => f.write_str("MAX_HEADER_LIST_SIZE"),
+            SettingName::NoRfc7540Priorities => f.write_str("NO_RFC7540_PRIORITIES"),
+            SettingName::Unknown(number) => write!(f, "setting {number}"),
+        }
+    }
+}
+
 #[derive(Clone, Copy, PartialEq, Eq, Debug)]
 pub struct Setting {
     pub name: SettingName,
@@ -65,12 +81,19 @@ impl Setting {
         ensures { λ r. ⌜ r ≡ setting-fault self ⌝ }
     {
         let code = match self.name {
-            SettingName::EnablePush | SettingName::NoRfc7540Priorities if self.value > 1 => ErrorCode::ProtocolError,
-            SettingName::InitialWindowSize if self.value > 0x7fff_ffff => ErrorCode::FlowControlError,
-            SettingName::MaxFrameSize if self.value < 16_384 || self.value > 16_777_215 => ErrorCode::ProtocolError,
+            SettingName::EnablePush | SettingName::NoRfc7540Priorities if self.value > 1 =>
+                ErrorCode::ProtocolError,
+            SettingName::InitialWindowSize if self.value > 0x7fff_ffff =>
+                ErrorCode::FlowControlError,
+            SettingName::MaxFrameSize if self.value < 16_384 || self.value > 16_777_215 =>
+                ErrorCode::ProtocolError,
             _ => return None,
         };
-        Some(Fault { scope: Scope::Connection, code, place: 0 })
+        Some(Fault {
+            scope: Scope::Connection,
+            code,
+            place: 0,
+        })
     }
 }
 

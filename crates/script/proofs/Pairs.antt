@@ -31,7 +31,7 @@ read : (rest : List ℕ) (a b : ℕ) (o : Option ℕ) → a ≡ getD rest 0 0 �
     → before o (hex-octets (drop 2 rest)) ≡ hex-octets rest
 read rest a b o ea eb e h =
     ap (λ (z : Option ℕ). before z (hex-octets (drop 2 rest)))
-        (e ∙ ap (λ (z : ℕ). octet-of (nibble z) (nibble b)) ea ∙ ap (λ (z : ℕ). octet-of (nibble (getD rest 0 0)) (nibble z)) eb)
+    (e ∙ ap (λ (z : ℕ). octet-of (nibble z) (nibble b)) ea ∙ ap (λ (z : ℕ). octet-of (nibble (getD rest 0 0)) (nibble z)) eb)
     ∙ sym (turn rest h)
 
 -- one pair more

@@ -5,6 +5,10 @@ use mathlib.Core.List.{List}
 use Rattle.std.specs.declared.result.Result.{Result}
 use Rattle.std.specs.declared.result.Result.the-variants.{Ok, Err}
 use Rattle.script.specs.declared.problem.Problem.{Problem}
+use Rattle.script.specs.declared.word.CallWord.{CallWord}
+use Rattle.script.specs.declared.word.CallWord.the-variants as call-words
+use Rattle.script.specs.declared.word.SettingWord.{SettingWord}
+use Rattle.script.specs.declared.word.SettingWord.the-variants as setting-words
 use Rattle.script.specs.declared.line.Scheduler.{Scheduler}
 use Rattle.script.specs.declared.line.Scheduler.the-variants as scheduler
 use lib.Chars.{codes}
@@ -16,12 +20,14 @@ use Rattle.script.specs.declared.line.Setting.the-variants as setting
 use Rattle.script.specs.declared.line.Call.{Call}
 use Rattle.script.specs.declared.line.Call.the-variants as call
 
+-- a book has at most 100,000 records, and slices lie at most two deep
 abbrev pub Setting-range : Setting → Type 0
 Setting-range (setting.Scheduler s) = Unit {0}
 Setting-range (setting.Site s) = s .slices ≤ 2
 Setting-range (setting.Book n) = n ≤ 100000
 Setting-range setting.ShowOctets = Unit {0}
 
+-- a buffer has at most 1,000,000 octets, and slips count from 1
 abbrev pub Call-range : Call → Type 0
 Call-range (call.Greet w) = Unit {0}
 Call-range (call.Take w) = Unit {0}
@@ -30,11 +36,25 @@ Call-range call.Claim = Unit {0}
 Call-range (call.Answer k a) = 1 ≤ k
 Call-range call.Shut = Unit {0}
 
--- a book has at most 100,000 records, a buffer at most 1,000,000 octets, slips count from 1, and slices lie at most two deep
 abbrev pub In-range : Line → Type 0
 In-range line.Blank = Unit {0}
 In-range (line.Setting s) = Setting-range s
 In-range (line.Call k) = Call-range k
+
+-- the word that each setting and call begins with
+abbrev pub setting-word : Setting → SettingWord
+setting-word (setting.Scheduler s) = setting-words.Scheduler
+setting-word (setting.Site s) = setting-words.Site
+setting-word (setting.Book n) = setting-words.Book
+setting-word setting.ShowOctets = setting-words.Show
+
+abbrev pub call-word : Call → CallWord
+call-word (call.Greet w) = call-words.Greet
+call-word (call.Take w) = call-words.Take
+call-word (call.Send n) = call-words.Send
+call-word call.Claim = call-words.Claim
+call-word (call.Answer k a) = call-words.Answer
+call-word call.Shut = call-words.Shut
 
 -- `drr` and `urgency` name the two schedulers, and nothing else does
 abbrev pub Names-scheduler : List ℕ → Result Scheduler Problem → Type 0

@@ -15,15 +15,15 @@ use Rattle.std.specs.declared.result.Result.{Result}
 -- the answer is the number that the text writes in decimal, just where the text is a numeral and the number lies in the range
 abbrev pub number-within : {E : Type 0} → List ℕ → ℕ → ℕ → Result ℕ E → Type 0
 number-within text least most r =
-  Converted r (Numeral 10 (afterPlus text) × (least ≤ value 10 (afterPlus text)) × (value 10 (afterPlus text) ≤ most)) (value 10 (afterPlus text))
+    Converted r (Numeral 10 (afterPlus text) × (least ≤ value 10 (afterPlus text)) × (value 10 (afterPlus text) ≤ most)) (value 10 (afterPlus text))
 
 -- the value of a hexadecimal digit of either case
 abbrev pub nibble : ℕ → Option ℕ
 nibble c =
-  cond (leb 48 c && leb c 57) (Some (c - 48))
-  (cond (leb 97 c && leb c 102) (Some (c - 87))
-  (cond (leb 65 c && leb c 70) (Some (c - 55))
-  None))
+    cond (leb 48 c && leb c 57) (Some (c - 48))
+    (cond (leb 97 c && leb c 102) (Some (c - 87))
+    (cond (leb 65 c && leb c 70) (Some (c - 55))
+    None))
 
 -- two digits are an octet, the higher one first
 abbrev pub octet-of : Option ℕ → Option ℕ → Option ℕ

@@ -43,7 +43,11 @@ fn pairs<'a>(heap: Global, text: &'a str) -> Result<Vec<u8>, Problem<'a>>
             Err(_) => return Err(Problem::NoMemory),
         }
     }
-    if rest.is_empty() { Ok(octets) } else { Err(Problem::BadHex(text)) }
+    if rest.is_empty() {
+        Ok(octets)
+    } else {
+        Err(Problem::BadHex(text))
+    }
 }
 
 // The octets that a word stands for; `-` stands for none.

@@ -5,7 +5,7 @@ ghost use Prim.Native.Nat.{ℕ, _≤_};
 ghost use Rattle.std.specs.Results.{okPart};
 ghost use Rattle.std.specs.Vec.{made};
 ghost use Rattle.std.specs.Pieces.{words-steps};
-ghost use Rattle.script.specs.Lines.{In-range, Setting-range, Call-range, Names-scheduler, Names-answer, Names-shown};
+ghost use Rattle.script.specs.Lines.{In-range, Setting-range, Call-range, setting-word, call-word, Names-scheduler, Names-answer, Names-shown};
 use crate::number::number;
 use crate::problem::Problem;
 use crate::word::CallWord;
@@ -15,6 +15,7 @@ use std::str::SplitWhitespace;
 
 // The most records that a script's book may have, and the most octets of a buffer.
 pub const MOST_RECORDS: u32 = 100_000;
+
 pub const MOST_OCTETS: u32 = 1_000_000;
 
 #[derive(Clone, Copy)]
@@ -100,8 +101,14 @@ fn site_named<'a>(words: &mut SplitWhitespace<'a>) -> Result<Site<'a>, Problem<'
         let word = next_word(words)?;
         match word {
             "slice" if slices < 2 => slices += 1,
-            "line" => return Ok(Site { slices, base: Base::LineTest }),
-            "shelf" => return Ok(Site { slices, base: Base::Shelf(next_word(words)?) }),
+            "line" => return Ok(Site {
+                slices,
+                base: Base::LineTest,
+            }),
+            "shelf" => return Ok(Site {
+                slices,
+                base: Base::Shelf(next_word(words)?),
+            }),
             _ => return Err(Problem::UnknownWord(word)),
         }
     }
@@ -118,8 +125,12 @@ fn show_named(word: &str) -> Result<Setting<'_>, Problem<'_>>
     }
 }
 
-fn setting_line<'a>(word: SettingWord, words: &mut SplitWhitespace<'a>) -> Result<Setting<'a>, Problem<'a>>
-    ensures { λ r. ⌜ made r Setting-range ⌝ }
+fn setting_line<'a>(
+    word: SettingWord,
+    words: &mut SplitWhitespace<'a>,
+) -> Result<Setting<'a>, Problem<'a>>
+    ensures range { λ r. ⌜ made r Setting-range ⌝ }
+    ensures made { λ r. ⌜ made r (λ s. setting-word s ≡ word) ⌝ }
 {
     match word {
         SettingWord::Scheduler => Ok(Setting::Scheduler(scheduler_named(next_word(words)?)?)),
@@ -130,7 +141,8 @@ fn setting_line<'a>(word: SettingWord, words: &mut SplitWhitespace<'a>) -> Resul
 }
 
 fn call_line<'a>(word: CallWord, words: &mut SplitWhitespace<'a>) -> Result<Call<'a>, Problem<'a>>
-    ensures { λ r. ⌜ made r Call-range ⌝ }
+    ensures range { λ r. ⌜ made r Call-range ⌝ }
+    ensures made { λ r. ⌜ made r (λ k. call-word k ≡ word) ⌝ }
 {
     match word {
         CallWord::Greet => Ok(Call::Greet(next_word(words)?)),
@@ -139,7 +151,10 @@ fn call_line<'a>(word: CallWord, words: &mut SplitWhitespace<'a>) -> Result<Call
         CallWord::Claim => Ok(Call::Claim),
         CallWord::Answer => {
             let slip = number(next_word(words)?, 1, u32::MAX)?;
-            Ok(Call::Answer { slip, yes: answer_named(next_word(words)?)? })
+            Ok(Call::Answer {
+                slip,
+                yes: answer_named(next_word(words)?)?,
+            })
         }
         CallWord::Shut => Ok(Call::Shut),
     }

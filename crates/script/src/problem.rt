@@ -7,7 +7,11 @@ pub enum Problem<'a> {
     MissingWord,
     ExtraWord(&'a str),
     BadHex(&'a str),
-    BadNumber { text: &'a str, least: u32, most: u32 },
+    BadNumber {
+        text: &'a str,
+        least: u32,
+        most: u32,
+    },
     LateSetting,
     NoMemory,
 }
@@ -19,7 +23,10 @@ pub impl fmt::Display for Problem<'_> as ProblemDisplay {
             Problem::MissingWord => write!(f, "the line ends too early"),
             Problem::ExtraWord(word) => write!(f, "one word too many: {word}"),
             Problem::BadHex(word) => write!(f, "not an even number of hexadecimal digits: {word}"),
-            Problem::BadNumber { text, least, most } => write!(f, "not a number from {least} to {most}: {text}"),
+            Problem::BadNumber { text, least, most } => write!(
+                f,
+                "not a number from {least} to {most}: {text}"
+            ),
             Problem::LateSetting => write!(f, "settings come before all calls"),
             Problem::NoMemory => write!(f, "out of memory"),
         }
