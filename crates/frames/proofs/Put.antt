@@ -9,8 +9,9 @@ use borrow.Rule.Slice.PartMut.{putMid, postOf, post-is}
 use Rattle.std.proofs.shelf.Lists.{drop-at, drop-drop}
 use Rattle.std.specs.declared.result.Result.the-variants.{Ok}
 use Rattle.frames.specs.declared.header.Header.{Header}
+use Rattle.frames.specs.declared.kind.Kind.{Kind}
 use Rattle.frames.specs.Header.{header-octets}
-use Rattle.frames.specs.Write.{put}
+use Rattle.frames.specs.Write.{header-for, put}
 
 -- behind the first nine octets stand what was written there and what stood behind that
 pub behind : (buffer mid xs : List ℕ) → mid ≡ xs → 9 ≤ length buffer
@@ -31,3 +32,8 @@ put-is h xs buffer front mid short room e f =
     ap (λ z. (Ok (9 + length xs), z ++ postOf 0 9 (putMid 9 (9 + length xs - 9) buffer mid))) e
     ∙ ap (λ z. (Ok (9 + length xs), header-octets h ++ z)) (behind buffer mid xs f (omega arith))
     ∙ put-fits h xs buffer short room
+
+-- a frame with the same payload is the same frame
+pub put-same : (kind : Kind) (bits stream : ℕ) (xs ys buffer : List ℕ) → xs ≡ ys
+    → put (header-for kind bits stream (length xs)) xs buffer ≡ put (header-for kind bits stream (length ys)) ys buffer
+put-same kind bits stream xs ys buffer e = ap (λ (zs : List ℕ). put (header-for kind bits stream (length zs)) zs buffer) e

@@ -10,6 +10,8 @@ use crate::kind::KindDebug;
 use crate::kind::KindPartialEq;
 use crate::octets::be31;
 
+pub type HeaderOctets = [u8; 9];
+
 // `length` counts the payload's octets; `stream` has 31 bits.
 #[derive(Clone, Copy, PartialEq, Eq, Debug)]
 pub struct Header {
@@ -36,7 +38,7 @@ impl Header {
         Some((header, rest))
     }
     // The header as it is written; the ignored bit is 0.
-    pub fn octets(self) -> [u8; 9]
+    pub fn octets(self) -> HeaderOctets
         ensures { λ r. ⌜ r ≡ header-octets self ⌝ }
     {
         let [_, l0, l1, l2] = self.length.to_be_bytes();

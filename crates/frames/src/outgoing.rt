@@ -5,7 +5,7 @@ ghost use Prim.Native.Nat.{ℕ};
 ghost use lib.ListN.{length};
 ghost use Rattle.frames.specs.Octets.{octets31, octets32};
 ghost use Rattle.frames.specs.Write.{header-for, our-list, put, written};
-ghost use Rattle.frames.specs.View.{sent};
+ghost use Rattle.frames.specs.View.{sent, sends-rst-stream, sends-window-update, sends-goaway, sends-headers, sends-data};
 use crate::code::ErrorCode;
 use crate::cut::LONGEST;
 use crate::flags::Flags;
@@ -36,13 +36,13 @@ pub enum Outgoing<'a> {
     Headers {
         stream: u32,
         block: &'a [u8],
-        end_stream: bool,
+        end: bool,
     },
     // Only the header: the payload of `length` octets is filled in behind it.
     DataHeader {
         stream: u32,
         length: u32,
-        end_stream: bool,
+        end: bool,
     },
 }
 
@@ -55,15 +55,19 @@ pub enum Unwritten {
     NoRoom,
 }
 
-// The two pairs of our SETTINGS: MAX_CONCURRENT_STREAMS (3) is 16, NO_RFC7540_PRIORITIES (9) is 1.
-fn our_settings() -> [u8; 12]
+// The two pairs of our SETTINGS, and two numbers of 32 bits.
+type TwoPairs = [u8; 12];
+
+type TwoNumbers = [u8; 8];
+
+// MAX_CONCURRENT_STREAMS (3) is 16, NO_RFC7540_PRIORITIES (9) is 1.
+fn our_settings() -> TwoPairs
     ensures { λ r. ⌜ r ≡ our-list ⌝ }
 {
     [0, 3, 0, 0, 0, 16, 0, 9, 0, 0, 0, 1]
 }
 
-// Two numbers of four octets each.
-fn eight(first: u32, second: u32) -> [u8; 8]
+fn two_numbers(first: u32, second: u32) -> TwoNumbers
     ensures { λ r. ⌜ r ≡ octets32 first ++ octets32 second ⌝ }
 {
     let [a, b, c, d] = first.to_be_bytes();
@@ -91,24 +95,87 @@ fn put_octets(buffer: &mut [u8], header: Header, octets: &[u8]) -> Result<usize,
 fn put_frame(
     buffer: &mut [u8],
     kind: Kind,
-    flags: u8,
+    bits: u8,
     stream: u32,
     payload: &[u8],
 ) -> Result<usize, Unwritten>
-    ensures { λ r. ⌜ (r, now (buffer .exit)) ≡ put (header-for kind flags stream (length (now (payload .entry)))) (now (payload .entry)) (now (buffer .entry)) ⌝ }
+    ensures { λ r. ⌜ (r, now (buffer .exit)) ≡ put (header-for kind bits stream (length (now (payload .entry)))) (now (payload .entry)) (now (buffer .entry)) ⌝ }
 {
     let Ok(length) = u32::try_from(payload.len()) else {
         return Err(Unwritten::TooLong);
     };
+    let flags = Flags { bits };
     put_octets(
         buffer,
         Header {
             length,
             kind,
-            flags: Flags { bits: flags },
+            flags,
             stream,
         },
         payload,
+    )
+}
+
+fn write_rst_stream(buffer: &mut [u8], stream: u32, code: ErrorCode) -> Result<usize, Unwritten>
+    ensures { λ r. ⌜ (r, now (buffer .exit)) ≡ written (sends-rst-stream stream code) (now (buffer .entry)) ⌝ }
+{
+    let octets = code.number().to_be_bytes();
+    put_frame(buffer, Kind::RstStream, Flags::NONE, stream, &octets)
+}
+
+// The increment has 31 bits.
+fn write_window_update(buffer: &mut [u8], stream: u32, increment: u32) -> Result<usize, Unwritten>
+    ensures { λ r. ⌜ (r, now (buffer .exit)) ≡ written (sends-window-update stream increment) (now (buffer .entry)) ⌝ }
+{
+    let octets = (increment % 0x8000_0000).to_be_bytes();
+    put_frame(buffer, Kind::WindowUpdate, Flags::NONE, stream, &octets)
+}
+
+// The last stream has 31 bits.
+fn write_goaway(buffer: &mut [u8], last: u32, code: ErrorCode) -> Result<usize, Unwritten>
+    ensures { λ r. ⌜ (r, now (buffer .exit)) ≡ written (sends-goaway last code) (now (buffer .entry)) ⌝ }
+{
+    let octets = two_numbers(last % 0x8000_0000, code.number());
+    put_frame(buffer, Kind::GoAway, Flags::NONE, 0, &octets)
+}
+
+fn write_headers(
+    buffer: &mut [u8],
+    stream: u32,
+    block: &[u8],
+    end: bool,
+) -> Result<usize, Unwritten>
+    ensures { λ r. ⌜ (r, now (buffer .exit)) ≡ written (sends-headers stream (now (block .entry)) end) (now (buffer .entry)) ⌝ }
+{
+    let bits = if end {
+        Flags::END_HEADERS | Flags::END_STREAM
+    } else {
+        Flags::END_HEADERS
+    };
+    put_frame(buffer, Kind::Headers, bits, stream, block)
+}
+
+fn write_data_header(
+    buffer: &mut [u8],
+    stream: u32,
+    length: u32,
+    end: bool,
+) -> Result<usize, Unwritten>
+    ensures { λ r. ⌜ (r, now (buffer .exit)) ≡ written (sends-data stream length end) (now (buffer .entry)) ⌝ }
+{
+    let flags = Flags {
+        bits: if end { Flags::END_STREAM } else { Flags::NONE },
+    };
+    put_octets(
+        buffer,
+        Header {
+            length,
+            kind: Kind::Data,
+            flags,
+            stream,
+        },
+        &[],
     )
 }
 
@@ -127,66 +194,17 @@ impl Outgoing<'_> {
             ),
             Outgoing::SettingsAck => put_frame(buffer, Kind::Settings, Flags::ACK, 0, &[]),
             Outgoing::PingAck { octets } => put_frame(buffer, Kind::Ping, Flags::ACK, 0, &octets),
-            Outgoing::RstStream { stream, code } => {
-                put_frame(
-                    buffer,
-                    Kind::RstStream,
-                    Flags::NONE,
-                    stream,
-                    &code.number().to_be_bytes(),
-                )
-            }
+            Outgoing::RstStream { stream, code } => write_rst_stream(buffer, stream, code),
             Outgoing::WindowUpdate { stream, increment } => {
-                put_frame(
-                    buffer,
-                    Kind::WindowUpdate,
-                    Flags::NONE,
-                    stream,
-                    &(increment % 0x8000_0000).to_be_bytes(),
-                )
+                write_window_update(buffer, stream, increment)
             }
-            Outgoing::GoAway { last, code } => {
-                put_frame(
-                    buffer,
-                    Kind::GoAway,
-                    Flags::NONE,
-                    0,
-                    &eight(last % 0x8000_0000, code.number()),
-                )
-            }
-            Outgoing::Headers {
-                stream,
-                block,
-                end_stream,
-            } => {
-                let flags = if end_stream {
-                    Flags::END_HEADERS | Flags::END_STREAM
-                } else {
-                    Flags::END_HEADERS
-                };
-                put_frame(buffer, Kind::Headers, flags, stream, block)
-            }
+            Outgoing::GoAway { last, code } => write_goaway(buffer, last, code),
+            Outgoing::Headers { stream, block, end } => write_headers(buffer, stream, block, end),
             Outgoing::DataHeader {
                 stream,
                 length,
-                end_stream,
-            } => {
-                let bits = if end_stream {
-                    Flags::END_STREAM
-                } else {
-                    Flags::NONE
-                };
-                put_octets(
-                    buffer,
-                    Header {
-                        length,
-                        kind: Kind::Data,
-                        flags: Flags { bits },
-                        stream,
-                    },
-                    &[],
-                )
-            }
+                end,
+            } => { write_data_header(buffer, stream, length, end) }
         }
     }
 }

@@ -53,6 +53,44 @@ pub struct Said<'a>(pub Frame<'a>);
 pub impl fmt::Display for Said<'_> as SaidDisplay {
     fn fmt<W: fmt::Write>(&self, f: &mut fmt::Formatter<W>) -> fmt::Result {
         match self.0 {
+            Frame::Priority { stream } => write!(f, "PRIORITY on stream {stream}: ignored"),
+            Frame::RstStream { stream, code } => {
+                write!(f, "RST_STREAM on stream {stream}: {}", Code(code))
+            }
+            Frame::Settings { list } => write!(f, "SETTINGS{}", Pairs(list)),
+            Frame::SettingsAck => f.write_str("SETTINGS with ACK"),
+            Frame::Ping { octets } => {
+                write!(
+                    f,
+                    "PING {:016x}, to be answered",
+                    u64::from_be_bytes(octets)
+                )
+            }
+            Frame::PingAck { octets } => {
+                write!(f, "PING {:016x} with ACK", u64::from_be_bytes(octets))
+            }
+            Frame::GoAway { last, code, debug } => {
+                let (code, n) = (Code(code), debug.len());
+                write!(f, "GOAWAY: last stream {last}, {code}, debug octets: {n}")
+            }
+            Frame::WindowUpdate { stream, increment } => {
+                write!(f, "WINDOW_UPDATE on stream {stream}: increment {increment}")
+            }
+            Frame::Unknown { kind, stream } => {
+                write!(f, "type {kind} on stream {stream}: ignored")
+            }
+            carrier => write!(f, "{}", Carried(carrier)),
+        }
+    }
+}
+
+// What a frame says that carries a part of a request.
+#[derive(Clone, Copy)]
+pub struct Carried<'a>(pub Frame<'a>);
+
+pub impl fmt::Display for Carried<'_> as CarriedDisplay {
+    fn fmt<W: fmt::Write>(&self, f: &mut fmt::Formatter<W>) -> fmt::Result {
+        match self.0 {
             Frame::Data {
                 stream,
                 octets,
@@ -62,7 +100,7 @@ pub impl fmt::Display for Said<'_> as SaidDisplay {
                 let (n, end) = (octets.len(), End(end_stream));
                 write!(
                     f,
-                    "DATA on stream {stream}: {n} octets of a body, {counted} counted{end}"
+                    "DATA on stream {stream}: body octets: {n}, counted: {counted}{end}"
                 )
             }
             Frame::Headers {
@@ -71,77 +109,35 @@ pub impl fmt::Display for Said<'_> as SaidDisplay {
                 end_headers,
                 end_stream,
             } => {
-                let (part, end) = (
-                    Part {
-                        length: fragment.len(),
-                        whole: end_headers,
-                    },
-                    End(end_stream),
-                );
+                let (part, end) = (Part(fragment.len(), end_headers), End(end_stream));
                 write!(f, "HEADERS on stream {stream}: {part}{end}")
-            }
-            Frame::Priority { stream } => write!(f, "PRIORITY on stream {stream}: ignored"),
-            Frame::RstStream { stream, code } => write!(
-                f,
-                "RST_STREAM on stream {stream}: {}",
-                Code(code)
-            ),
-            Frame::Settings { list } => write!(f, "SETTINGS{}", Pairs(list)),
-            Frame::SettingsAck => f.write_str("SETTINGS with ACK"),
-            Frame::Ping { octets } => write!(
-                f,
-                "PING {:016x}, to be answered",
-                u64::from_be_bytes(octets)
-            ),
-            Frame::PingAck { octets } => write!(
-                f,
-                "PING {:016x} with ACK",
-                u64::from_be_bytes(octets)
-            ),
-            Frame::GoAway { last, code, debug } => {
-                let (code, n) = (Code(code), debug.len());
-                write!(
-                    f,
-                    "GOAWAY: last stream {last}, {code}, {n} octets of debug data"
-                )
-            }
-            Frame::WindowUpdate { stream, increment } => {
-                write!(
-                    f,
-                    "WINDOW_UPDATE on stream {stream}: {increment} octets more"
-                )
             }
             Frame::Continuation {
                 stream,
                 fragment,
                 end_headers,
             } => {
-                let part = Part {
-                    length: fragment.len(),
-                    whole: end_headers,
-                };
+                let part = Part(fragment.len(), end_headers);
                 write!(f, "CONTINUATION on stream {stream}: {part}")
             }
-            Frame::Unknown { kind, stream } => write!(f, "type {kind} on stream {stream}: ignored"),
+            _ => Ok(()),
         }
     }
 }
 
-// A part of a field block.
+// A part of a field block: how many octets, and whether the block is whole.
 #[derive(Clone, Copy)]
-pub struct Part {
-    pub length: usize,
-    pub whole: bool,
-}
+pub struct Part(pub usize, pub bool);
 
 pub impl fmt::Display for Part as PartDisplay {
     fn fmt<W: fmt::Write>(&self, f: &mut fmt::Formatter<W>) -> fmt::Result {
-        let n = self.length;
-        if self.whole {
-            write!(f, "{n} octets of a field block, which is whole")
+        let n = self.0;
+        let rest = if self.1 {
+            "the block is whole"
         } else {
-            write!(f, "{n} octets of a field block, more to come")
-        }
+            "more to come"
+        };
+        write!(f, "block octets: {n}, {rest}")
     }
 }
 
@@ -214,6 +210,6 @@ pub impl fmt::Display for About as AboutDisplay {
         let kind = header.kind;
         let stream = header.stream;
         let length = header.length;
-        write!(f, "{kind} on stream {stream} with {length} octets: ")
+        write!(f, "{kind} on stream {stream}, payload octets: {length}; ")
     }
 }
