@@ -111,5 +111,4 @@ sent (out.PingAck o) = sends-ping-ack o
 sent (out.RstStream s c) = sends-rst-stream s c
 sent (out.WindowUpdate s n) = sends-window-update s n
 sent (out.GoAway l c) = sends-goaway l c
-sent (out.Headers s b e) = sends-headers s (b .now) e
 sent (out.DataHeader s n e) = sends-data s n e

@@ -11,7 +11,7 @@ use crate::header::Header;
 pub const LONGEST: u32 = 16_384;
 
 // Why nothing was done; everything is as it was.
-#[derive(Clone, Copy, PartialEq, Eq, Debug)]
+#[derive(Clone, Copy)]
 pub enum Refusal {
     // The frame is not whole yet: give its octets again with those that follow.
     Incomplete,

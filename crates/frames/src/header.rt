@@ -3,17 +3,13 @@ ghost use mathlib.Core.Path.{_≡_};
 ghost use Rattle.frames.specs.Header.{split-header, header-octets};
 ghost use Rattle.frames.specs.View.{split-view};
 use crate::flags::Flags;
-use crate::flags::FlagsDebug;
-use crate::flags::FlagsPartialEq;
 use crate::kind::Kind;
-use crate::kind::KindDebug;
-use crate::kind::KindPartialEq;
 use crate::octets::be31;
 
 pub type HeaderOctets = [u8; 9];
 
 // `length` counts the payload's octets; `stream` has 31 bits.
-#[derive(Clone, Copy, PartialEq, Eq, Debug)]
+#[derive(Clone, Copy)]
 pub struct Header {
     pub length: u32,
     pub kind: Kind,

@@ -12,38 +12,18 @@ use crate::flags::Flags;
 use crate::header::Header;
 use crate::kind::Kind;
 
+// Every frame but HEADERS, whose block is lent (`write_headers`).
 #[derive(Clone, Copy)]
-pub enum Outgoing<'a> {
+pub enum Outgoing {
     // Ours: at most 16 concurrent streams, and no old priorities.
     Settings,
     SettingsAck,
-    PingAck {
-        octets: [u8; 8],
-    },
-    RstStream {
-        stream: u32,
-        code: ErrorCode,
-    },
-    WindowUpdate {
-        stream: u32,
-        increment: u32,
-    },
-    GoAway {
-        last: u32,
-        code: ErrorCode,
-    },
-    // A whole field block.
-    Headers {
-        stream: u32,
-        block: &'a [u8],
-        end: bool,
-    },
+    PingAck { octets: [u8; 8] },
+    RstStream { stream: u32, code: ErrorCode },
+    WindowUpdate { stream: u32, increment: u32 },
+    GoAway { last: u32, code: ErrorCode },
     // Only the header: the payload of `length` octets is filled in behind it.
-    DataHeader {
-        stream: u32,
-        length: u32,
-        end: bool,
-    },
+    DataHeader { stream: u32, length: u32, end: bool },
 }
 
 // Why a frame was not written; the buffer is as it was.
@@ -140,7 +120,8 @@ fn write_goaway(buffer: &mut [u8], last: u32, code: ErrorCode) -> Result<usize, 
     put_frame(buffer, Kind::GoAway, Flags::NONE, 0, &octets)
 }
 
-fn write_headers(
+// Writes HEADERS with a whole field block to the front of the buffer.
+pub fn write_headers(
     buffer: &mut [u8],
     stream: u32,
     block: &[u8],
@@ -179,10 +160,10 @@ fn write_data_header(
     )
 }
 
-impl Outgoing<'_> {
+impl Outgoing {
     // Writes the frame to the front of the buffer and answers how many octets that took; what stood behind them stays.
     pub fn write(self, buffer: &mut [u8]) -> Result<usize, Unwritten>
-        ensures { λ r. ⌜ (r, now (buffer .exit)) ≡ written (sent (self .entry)) (now (buffer .entry)) ⌝ }
+        ensures { λ r. ⌜ (r, now (buffer .exit)) ≡ written (sent self) (now (buffer .entry)) ⌝ }
     {
         match self {
             Outgoing::Settings => put_frame(
@@ -199,7 +180,6 @@ impl Outgoing<'_> {
                 write_window_update(buffer, stream, increment)
             }
             Outgoing::GoAway { last, code } => write_goaway(buffer, last, code),
-            Outgoing::Headers { stream, block, end } => write_headers(buffer, stream, block, end),
             Outgoing::DataHeader {
                 stream,
                 length,

@@ -8,7 +8,7 @@ use crate::fault::Scope;
 use crate::octets::be32;
 use std::fmt;
 
-#[derive(Clone, Copy, PartialEq, Eq, Debug)]
+#[derive(Clone, Copy)]
 pub enum SettingName {
     HeaderTableSize,
     EnablePush,
@@ -69,7 +69,7 @@ pub impl fmt::Display for SettingName as SettingNameDisplay {
     }
 }
 
-#[derive(Clone, Copy, PartialEq, Eq, Debug)]
+#[derive(Clone, Copy)]
 pub struct Setting {
     pub name: SettingName,
     pub value: u32,

@@ -1,0 +1,12 @@
+pub mod Charges
+pub mod Ring
+pub mod Quiets
+pub mod Walks
+pub mod Rounds
+pub mod Turns
+pub mod Leasts
+pub mod Orders
+pub mod Bests
+pub mod Urgents
+pub mod Runs
+pub mod Values
