@@ -1,5 +1,9 @@
 // The rig: plays a script of calls and prints what each call did.
+mod blocks;
+mod fetching;
+mod picking;
 mod player;
+mod tally;
 mod words;
 
 use player::Player;
@@ -26,16 +30,12 @@ fn script_text(rt: &LibcRuntime) -> Result<String, AnyError> {
 // Plays the script line by line; an error names its line.
 fn run(rt: &LibcRuntime) -> Result<(), AnyError> {
     let text = script_text(rt)?;
-    let mut player = Player {
-        seen: 0,
-        begun: false,
-    };
+    let mut player = Player::new();
     let mut number = 0usize;
     for line in text.lines() {
         number = number.saturating_add(1);
-        match play(rt, number, line, player) {
-            Ok(next) => player = next,
-            Err(stop) => return Err(format!(rt.alloc(), "line {number}: {stop}")?.into()),
+        if let Err(stop) = play(rt, number, line, &mut player) {
+            return Err(format!(rt.alloc(), "line {number}: {stop}")?.into());
         }
     }
     Ok(())

@@ -9,6 +9,7 @@ use frames::kind::KindDisplay;
 use frames::read::Reading;
 use frames::settings::SettingNameDisplay;
 use frames::settings::SettingsList;
+use site::survey::Survey;
 use std::fmt;
 
 // The number of an error code and its name, if it has one.
@@ -211,5 +212,32 @@ pub impl fmt::Display for About as AboutDisplay {
         let stream = header.stream;
         let length = header.length;
         write!(f, "{kind} on stream {stream}, payload octets: {length}; ")
+    }
+}
+
+// What a path names: how many octets, the first and the last of them, and their Adler-32 checksum.
+#[derive(Clone, Copy)]
+pub struct Found(pub Survey);
+
+pub impl fmt::Display for Found as FoundDisplay {
+    fn fmt<W: fmt::Write>(&self, f: &mut fmt::Formatter<W>) -> fmt::Result {
+        let Survey {
+            count,
+            first,
+            last,
+            checksum,
+        } = self.0;
+        match (first, last) {
+            (Some(first), Some(last)) => {
+                write!(
+                    f,
+                    "count {count} first {first:02x} last {last:02x} checksum {checksum:08x}  # named"
+                )
+            }
+            _ => write!(
+                f,
+                "count {count} first - last - checksum {checksum:08x}  # named and empty"
+            ),
+        }
     }
 }

@@ -3,7 +3,7 @@ use mathlib.Core.List.{List}
 use Prim.Native.Nat.{ℕ}
 use lib.Chars.{codes}
 use Rattle.script.specs.declared.word.CallWord.{CallWord}
-use Rattle.script.specs.declared.word.CallWord.the-variants.{Greet, Take, Send, Claim, Answer, Shut}
+use Rattle.script.specs.declared.word.CallWord.the-variants.{Greet, Take, Send, Claim, Answer, Shut, Offers, Pick, Fetch, Block}
 use Rattle.script.specs.declared.word.SettingWord.{SettingWord}
 use Rattle.script.specs.declared.word.SettingWord.the-variants.{Scheduler, Site, Book, Show}
 use Rattle.script.specs.declared.word.Word.{Word}
@@ -20,3 +20,7 @@ spelling (word.Call Send) = codes "send"
 spelling (word.Call Claim) = codes "claim"
 spelling (word.Call Answer) = codes "answer"
 spelling (word.Call Shut) = codes "shut"
+spelling (word.Call Offers) = codes "offers"
+spelling (word.Call Pick) = codes "pick"
+spelling (word.Call Fetch) = codes "fetch"
+spelling (word.Call Block) = codes "block"

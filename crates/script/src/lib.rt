@@ -2,5 +2,6 @@
 pub mod hex;
 pub mod line;
 pub mod number;
+pub mod offer;
 pub mod problem;
 pub mod word;

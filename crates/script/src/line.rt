@@ -5,8 +5,10 @@ ghost use Prim.Native.Nat.{ℕ, _≤_};
 ghost use Rattle.std.specs.Results.{okPart};
 ghost use Rattle.std.specs.Vec.{made};
 ghost use Rattle.std.specs.Pieces.{words-steps};
-ghost use Rattle.script.specs.Lines.{In-range, Setting-range, Call-range, setting-word, call-word, Names-scheduler, Names-answer, Names-shown};
+ghost use Rattle.script.specs.Lines.{In-range, Setting-range, Call-range, setting-word, call-word, Names-scheduler, Names-answer, Names-shown, Offers-range};
 use crate::number::number;
+use crate::offer::Offered;
+use crate::offer::read_offer;
 use crate::problem::Problem;
 use crate::word::CallWord;
 use crate::word::SettingWord;
@@ -17,6 +19,12 @@ use std::str::SplitWhitespace;
 pub const MOST_RECORDS: u32 = 100_000;
 
 pub const MOST_OCTETS: u32 = 1_000_000;
+
+// The most picks of one line.
+pub const MOST_PICKS: u32 = 10_000;
+
+// What the sixteen places offer.
+pub type Offers = [Offered; 16];
 
 #[derive(Clone, Copy)]
 pub enum Line<'a> {
@@ -60,6 +68,10 @@ pub enum Call<'a> {
     Claim,
     Answer { slip: u32, yes: bool },
     Shut,
+    Offers(Offers),
+    Pick(u32),
+    Fetch(&'a str),
+    Block(&'a str),
 }
 
 // The next word of the line.
@@ -115,6 +127,27 @@ fn site_named<'a>(words: &mut SplitWhitespace<'a>) -> Result<Site<'a>, Problem<'
     Err(Problem::MissingWord)
 }
 
+// At most sixteen offers; places that are not named offer nothing.
+fn read_offers<'a>(words: &mut SplitWhitespace<'a>) -> Result<Offers, Problem<'a>>
+    ensures { λ r. ⌜ made r Offers-range ⌝ }
+{
+    let nothing = Offered {
+        octets: 0,
+        urgency: 0,
+        incremental: false,
+        stream: 0,
+    };
+    let mut offers = [nothing; 16];
+    for _ in 0..16usize {
+        let Some(word) = words.next() else {
+            return Ok(offers);
+        };
+        let (place, offer) = read_offer(word)?;
+        offers[place] = offer;
+    }
+    Ok(offers)
+}
+
 // `octets`, the one thing to show.
 fn show_named(word: &str) -> Result<Setting<'_>, Problem<'_>>
     ensures { λ r. ⌜ Names-shown (now (word .entry)) r ⌝ }
@@ -157,6 +190,10 @@ fn call_line<'a>(word: CallWord, words: &mut SplitWhitespace<'a>) -> Result<Call
             })
         }
         CallWord::Shut => Ok(Call::Shut),
+        CallWord::Offers => Ok(Call::Offers(read_offers(words)?)),
+        CallWord::Pick => Ok(Call::Pick(number(next_word(words)?, 0, MOST_PICKS)?)),
+        CallWord::Fetch => Ok(Call::Fetch(next_word(words)?)),
+        CallWord::Block => Ok(Call::Block(next_word(words)?)),
     }
 }
 

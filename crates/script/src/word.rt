@@ -19,6 +19,10 @@ pub enum CallWord {
     Claim,
     Answer,
     Shut,
+    Offers,
+    Pick,
+    Fetch,
+    Block,
 }
 
 #[derive(Clone, Copy)]
@@ -43,6 +47,10 @@ impl Word {
             "claim" => Some(Word::Call(CallWord::Claim)),
             "answer" => Some(Word::Call(CallWord::Answer)),
             "shut" => Some(Word::Call(CallWord::Shut)),
+            "offers" => Some(Word::Call(CallWord::Offers)),
+            "pick" => Some(Word::Call(CallWord::Pick)),
+            "fetch" => Some(Word::Call(CallWord::Fetch)),
+            "block" => Some(Word::Call(CallWord::Block)),
             _ => None,
         }
     }
