@@ -155,6 +155,9 @@ fn pick<'a>(
         let Pick { place, charge } = *pick;
         println!(rt, "{number} pick place {place} charge {charge}")?;
     }
+    if picks.len() < count as usize {
+        println!(rt, "{number} pick none  # nobody offers")?;
+    }
     for place in 0..16usize {
         if offers[place].octets > 0 {
             println!(
