@@ -162,7 +162,7 @@ fn pick<'a>(
         if offers[place].octets > 0 {
             println!(
                 rt,
-                "{number} pick {} lag {lag}",
+                "{number} share {} lag {lag}",
                 share_of(&picks, offers, place)
             )?;
         }
