@@ -9,7 +9,7 @@ use borrow.Rule.Slice.PartMut.{putMid, postOf, post-is}
 use Rattle.std.proofs.shelf.Lists.{drop-at, drop-drop}
 use Rattle.std.specs.declared.result.Result.the-variants.{Ok}
 use Rattle.frames.specs.declared.header.Header.{Header}
-use Rattle.frames.specs.declared.kind.Kind.{Kind}
+use Rattle.frames.specs.declared.header.Kind.{Kind}
 use Rattle.frames.specs.Header.{header-octets}
 use Rattle.frames.specs.Write.{header-for, put}
 

@@ -15,8 +15,8 @@ use Rattle.frames.specs.declared.fault.Fault.{Fault}
 use Rattle.frames.specs.declared.header.Header.{Header}
 use Rattle.frames.specs.declared.code.ErrorCode.{ErrorCode}
 use Rattle.frames.specs.declared.code.ErrorCode.the-variants.{NoError, ProtocolError, InternalError, FlowControlError, SettingsTimeout, StreamClosed, FrameSizeError, RefusedStream, Cancel, CompressionError, ConnectError, EnhanceYourCalm, InadequateSecurity, Http11Required}
-use Rattle.frames.specs.declared.kind.Kind.{Kind}
-use Rattle.frames.specs.declared.kind.Kind.the-variants.{Data, Headers, RstStream, Settings, Ping, GoAway, WindowUpdate}
+use Rattle.frames.specs.declared.header.Kind.{Kind}
+use Rattle.frames.specs.declared.header.Kind.the-variants.{Data, Headers, RstStream, Settings, Ping, GoAway, WindowUpdate}
 use Rattle.std.specs.declared.option.Option.the-variants.{Some}
 use Rattle.std.specs.declared.result.Result.{Result}
 use Rattle.std.specs.declared.result.Result.the-variants.{Ok}

@@ -7,8 +7,8 @@ use Rattle.std.specs.declared.option.Option.{Option}
 use Rattle.std.specs.declared.option.Option.the-variants.{Some, None}
 use Rattle.frames.specs.declared.code.ErrorCode.{ErrorCode}
 use Rattle.frames.specs.declared.code.ErrorCode.the-variants.{NoError, ProtocolError, InternalError, FlowControlError, SettingsTimeout, StreamClosed, FrameSizeError, RefusedStream, Cancel, CompressionError, ConnectError, EnhanceYourCalm, InadequateSecurity, Http11Required}
-use Rattle.frames.specs.declared.kind.Kind.{Kind}
-use Rattle.frames.specs.declared.kind.Kind.the-variants.{Data, Headers, Priority, RstStream, Settings, PushPromise, Ping, GoAway, WindowUpdate, Continuation, Unknown}
+use Rattle.frames.specs.declared.header.Kind.{Kind}
+use Rattle.frames.specs.declared.header.Kind.the-variants.{Data, Headers, Priority, RstStream, Settings, PushPromise, Ping, GoAway, WindowUpdate, Continuation, Unknown}
 
 -- the number of each error code
 abbrev pub code-number : ErrorCode → ℕ

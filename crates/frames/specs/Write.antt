@@ -7,8 +7,8 @@ use lib.Dec.{ltb}
 use Rattle.std.specs.declared.result.Result.{Result}
 use Rattle.std.specs.declared.result.Result.the-variants.{Ok, Err}
 use Rattle.frames.specs.declared.header.Header.{Header}
-use Rattle.frames.specs.declared.kind.Kind.{Kind}
-use Rattle.frames.specs.declared.kind.Kind.the-variants.{Data, Headers, RstStream, Settings, Ping, GoAway, WindowUpdate}
+use Rattle.frames.specs.declared.header.Kind.{Kind}
+use Rattle.frames.specs.declared.header.Kind.the-variants.{Data, Headers, RstStream, Settings, Ping, GoAway, WindowUpdate}
 use Rattle.frames.specs.declared.outgoing.Unwritten.{Unwritten}
 use Rattle.frames.specs.declared.outgoing.Unwritten.the-variants.{TooLong, NoRoom}
 use Rattle.frames.specs.declared.settings.Setting.{Setting}

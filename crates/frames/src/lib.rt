@@ -5,7 +5,6 @@ pub mod fault;
 pub mod flags;
 pub mod frame;
 pub mod header;
-pub mod kind;
 pub mod octets;
 pub mod outgoing;
 pub mod parse;

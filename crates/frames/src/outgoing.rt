@@ -10,7 +10,7 @@ use crate::code::ErrorCode;
 use crate::cut::LONGEST;
 use crate::flags::Flags;
 use crate::header::Header;
-use crate::kind::Kind;
+use crate::header::Kind;
 
 // Every frame but HEADERS, whose block is lent (`write_headers`).
 #[derive(Clone, Copy)]

@@ -8,7 +8,7 @@ use crate::fault::Scope;
 use crate::flags::Flags;
 use crate::frame::Frame;
 use crate::header::Header;
-use crate::kind::Kind;
+use crate::header::Kind;
 use crate::octets::be31;
 use crate::octets::be32;
 use crate::settings::SettingsList;

@@ -1,6 +1,6 @@
 // The list of a SETTINGS frame: names and values, six octets a pair.
 ghost use mathlib.Core.Path.{_≡_};
-ghost use Rattle.frames.specs.Settings.{name-number, name-of, setting-fault, first-pair, pairs, pairs-in};
+ghost use Rattle.frames.specs.Settings.{name-of, setting-fault, first-pair, pairs, pairs-in};
 ghost use Rattle.frames.specs.View.{pair-view};
 use crate::code::ErrorCode;
 use crate::fault::Fault;
@@ -22,7 +22,7 @@ pub enum SettingName {
 
 impl SettingName {
     // The setting that a number names.
-    pub fn of(number: u16) -> SettingName
+    fn of(number: u16) -> SettingName
         ensures { λ r. ⌜ r ≡ name-of number ⌝ }
     {
         match number {
@@ -34,22 +34,6 @@ impl SettingName {
             6 => SettingName::MaxHeaderListSize,
             9 => SettingName::NoRfc7540Priorities,
             _ => SettingName::Unknown(number),
-        }
-    }
-
-    // The number that names the setting.
-    pub fn number(self) -> u16
-        ensures { λ r. ⌜ r ≡ name-number self ⌝ }
-    {
-        match self {
-            SettingName::HeaderTableSize => 1,
-            SettingName::EnablePush => 2,
-            SettingName::MaxConcurrentStreams => 3,
-            SettingName::InitialWindowSize => 4,
-            SettingName::MaxFrameSize => 5,
-            SettingName::MaxHeaderListSize => 6,
-            SettingName::NoRfc7540Priorities => 9,
-            SettingName::Unknown(number) => number,
         }
     }
 }

@@ -5,7 +5,7 @@ use frames::fault::Fault;
 use frames::fault::Scope;
 use frames::frame::Frame;
 use frames::header::Header;
-use frames::kind::KindDisplay;
+use frames::header::KindDisplay;
 use frames::read::Reading;
 use frames::settings::SettingNameDisplay;
 use frames::settings::SettingsList;

@@ -84,6 +84,17 @@ fn next_word<'a>(words: &mut SplitWhitespace<'a>) -> Result<&'a str, Problem<'a>
     }
 }
 
+// The next word, as a number in its range.
+fn next_number<'a>(
+    words: &mut SplitWhitespace<'a>,
+    least: u32,
+    most: u32,
+) -> Result<u32, Problem<'a>>
+    ensures { λ r. ⌜ made r (λ n. (least ≤ n) × (n ≤ most)) ⌝ }
+{
+    number(next_word(words)?, least, most)
+}
+
 fn scheduler_named(word: &str) -> Result<Scheduler, Problem<'_>>
     ensures { λ r. ⌜ Names-scheduler (now (word .entry)) r ⌝ }
 {
@@ -168,9 +179,18 @@ fn setting_line<'a>(
     match word {
         SettingWord::Scheduler => Ok(Setting::Scheduler(scheduler_named(next_word(words)?)?)),
         SettingWord::Site => Ok(Setting::Site(site_named(words)?)),
-        SettingWord::Book => Ok(Setting::Book(number(next_word(words)?, 0, MOST_RECORDS)?)),
+        SettingWord::Book => Ok(Setting::Book(next_number(words, 0, MOST_RECORDS)?)),
         SettingWord::Show => show_named(next_word(words)?),
     }
+}
+
+fn answer_line<'a>(words: &mut SplitWhitespace<'a>) -> Result<Call<'a>, Problem<'a>>
+    ensures range { λ r. ⌜ made r Call-range ⌝ }
+    ensures made { λ r. ⌜ made r (λ k. call-word k ≡ CallWord.Answer) ⌝ }
+{
+    let slip = next_number(words, 1, u32::MAX)?;
+    let yes = answer_named(next_word(words)?)?;
+    Ok(Call::Answer { slip, yes })
 }
 
 fn call_line<'a>(word: CallWord, words: &mut SplitWhitespace<'a>) -> Result<Call<'a>, Problem<'a>>
@@ -180,18 +200,12 @@ fn call_line<'a>(word: CallWord, words: &mut SplitWhitespace<'a>) -> Result<Call
     match word {
         CallWord::Greet => Ok(Call::Greet(next_word(words)?)),
         CallWord::Take => Ok(Call::Take(next_word(words)?)),
-        CallWord::Send => Ok(Call::Send(number(next_word(words)?, 0, MOST_OCTETS)?)),
+        CallWord::Send => Ok(Call::Send(next_number(words, 0, MOST_OCTETS)?)),
         CallWord::Claim => Ok(Call::Claim),
-        CallWord::Answer => {
-            let slip = number(next_word(words)?, 1, u32::MAX)?;
-            Ok(Call::Answer {
-                slip,
-                yes: answer_named(next_word(words)?)?,
-            })
-        }
+        CallWord::Answer => answer_line(words),
         CallWord::Shut => Ok(Call::Shut),
         CallWord::Offers => Ok(Call::Offers(read_offers(words)?)),
-        CallWord::Pick => Ok(Call::Pick(number(next_word(words)?, 0, MOST_PICKS)?)),
+        CallWord::Pick => Ok(Call::Pick(next_number(words, 0, MOST_PICKS)?)),
         CallWord::Fetch => Ok(Call::Fetch(next_word(words)?)),
         CallWord::Block => Ok(Call::Block(next_word(words)?)),
     }
