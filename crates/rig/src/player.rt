@@ -104,6 +104,8 @@ fn noted(seen: u32, reading: Reading<'_>) -> u32
 pub enum Stop<'a> {
     Script(Problem<'a>),
     Output(io::Error),
+    // A field that was handed on could not be printed.
+    LostField,
 }
 
 pub impl fmt::Display for Stop<'_> as StopDisplay {
@@ -111,6 +113,7 @@ pub impl fmt::Display for Stop<'_> as StopDisplay {
         match self {
             Stop::Script(problem) => write!(f, "{problem}"),
             Stop::Output(error) => write!(f, "{error}"),
+            Stop::LostField => write!(f, "a field could not be printed"),
         }
     }
 }
@@ -208,7 +211,11 @@ fn block<'a>(
         line: number,
         failed: Cell::new(false),
     };
-    match decode(table, &octets, &mut printer) {
+    let decoded = decode(table, &octets, &mut printer);
+    if printer.failed.get() {
+        return Err(Stop::LostField);
+    }
+    match decoded {
         Ok(()) => println!(rt, "{number} block ok  # decoded to its end")?,
         Err(place) => println!(
             rt,
