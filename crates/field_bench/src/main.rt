@@ -1,6 +1,8 @@
 // Decodes as many blocks as its three arguments say, for an instruction count of each kind of block:
 // mixed (8 fields, of which 2 are added and drop older ones), indexed (8 indexed fields), and worst
 // (4,096 octets, each of which names an entry that fills the whole table).
+#![tactic(auto)]
+
 mod tally;
 
 use anyhow::anyhow;

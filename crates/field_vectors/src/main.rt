@@ -1,5 +1,7 @@
 // Runs the examples of RFC 7541, Appendix C, that use no Huffman coding, and a few on the house rules, and prints what it
 // finds in the layout of the RFC.
+#![tactic(auto)]
+
 mod case;
 mod shown;
 

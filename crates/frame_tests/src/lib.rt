@@ -1,4 +1,6 @@
 // Frames on examples: what is written octet by octet, and which rule decides where two are broken.
+#![tactic(auto)]
+
 #[cfg(test)]
 mod tests {
     use frames::code::ErrorCode;

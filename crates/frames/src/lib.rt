@@ -1,4 +1,6 @@
 // HTTP/2 frames as octets: one frame is cut from what came, and read into a `Frame` or a `Fault`.
+#![tactic(auto)]
+
 pub mod code;
 pub mod cut;
 pub mod fault;

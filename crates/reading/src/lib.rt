@@ -1,4 +1,6 @@
 // What a frame does to the streams of a connection.
+#![tactic(auto)]
+
 pub mod acting;
 mod blocks;
 pub mod meeting;

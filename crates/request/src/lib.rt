@@ -1,4 +1,6 @@
 // Requests: what is malformed, what its priority is, what an ended request gets, and the book's records.
+#![tactic(auto)]
+
 ghost use Rattle.std.specs.Prelude.{◌≡◌};
 ghost use Rattle.request.specs.Texts.{laid};
 ghost use Rattle.std.specs.Str.{bytes_eq};

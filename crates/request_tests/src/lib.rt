@@ -1,4 +1,6 @@
 // Requests on examples: blocks as a station sends them, what they say, and what is malformed.
+#![tactic(auto)]
+
 #[cfg(test)]
 mod tests {
     use request::block::read_block;

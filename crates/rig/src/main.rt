@@ -1,4 +1,6 @@
 // The rig: plays a script of calls and prints what each call did.
+#![tactic(auto)]
+
 mod blocks;
 mod fetching;
 mod picking;

@@ -1,4 +1,6 @@
 // Fair schedulers over sixteen places, behind one meaning.
+#![tactic(auto)]
+
 ghost use Rattle.std.specs.Prelude.{◌≡◌, ◌<◌};
 ghost use Rattle.scheduler.specs.Offers.{offer_at};
 

@@ -1,4 +1,6 @@
 // Schedulers on examples: the worked values, the ranges of an offer, and why a run stops.
+#![tactic(auto)]
+
 #[cfg(test)]
 mod tests {
     use policies::policy::Policy;

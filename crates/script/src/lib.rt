@@ -1,4 +1,6 @@
 // The script language of the rig: what one line of a script asks for.
+#![tactic(auto)]
+
 pub mod hex;
 pub mod line;
 pub mod number;

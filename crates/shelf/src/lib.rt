@@ -1,4 +1,6 @@
 // The shelf: a site over lent octets.
+#![tactic(auto)]
+
 mod copy;
 pub mod lends;
 pub mod refusal;

@@ -1,4 +1,6 @@
 // Sites: named octets that a server reads from, behind one meaning; and the simplest of them, the line test.
+#![tactic(auto)]
+
 pub mod digits;
 pub mod line;
 pub mod site;

@@ -1,4 +1,6 @@
 // Sites on examples: what paths name, what places hold, and which shelves are refused.
+#![tactic(auto)]
+
 #[cfg(test)]
 mod tests {
     use shelf::shelf::Shelf;

@@ -1,4 +1,6 @@
 // The two tables that the indices of a field block point into (RFC 7541): the static one and the dynamic one.
+#![tactic(auto)]
+
 pub mod span;
 pub mod static_table;
 pub mod table;

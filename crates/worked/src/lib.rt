@@ -1,4 +1,6 @@
 // The worked values of all rooms, as one fact about their definitions.
+#![tactic(auto)]
+
 ghost use Rattle.std.specs.Prelude.{◌≡◌, Some, None};
 ghost use Rattle.worked.specs.Joint.{WorkedTogether};
 
