@@ -2,7 +2,7 @@
 use Rattle.std.proofs.Common.{◌≡◌, ℕ, zero, suc, ◌+◌, ◌-◌, ◌*◌, ◌%◌, ◌<◌, ◌≤◌, ◌⊎◌, List, ◌∷◌, length, get_or, take, drop, set, Some, None, sym, refl, ap, ◌∙◌, inl, inr, le_of_suc-le-suc, not-suc-le-zero, arith, length-drop, length-take-le, get_or-set_other, get_or-set_same, take-take}
 use Rattle.std.proofs.lemmas.List.{drop-drop, drop-take}
 use Rattle.tables.specs.declared.span.Span.{Span}
-use Rattle.tables.specs.DynamicTable.{cost, nth, total}
+use Rattle.tables.specs.DynamicTable.{nth, total}
 use Rattle.tables.specs.Layout.{blank, cut, rows, space, span_at}
 
 -- The ring: one step on, and how the octets add up.

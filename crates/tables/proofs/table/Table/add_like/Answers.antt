@@ -7,8 +7,8 @@ use Rattle.tables.proofs.Changes.{insert_some, insert_none}
 use Rattle.tables.proofs.Rings.{nth_row, row_name, space_upto}
 use Rattle.tables.proofs.table.Table.add_like.Goals as goal
 
-pub returns-in-default : goal.returns-in-default
-returns-in-default c =
+pub returns-in_default : goal.returns-in_default
+returns-in_default c =
     let t = c.args.self.now in
     let k : ℕ = t.count - 1 - c.args.i in
     let value : List ℕ = c.args.value.now in
@@ -17,7 +17,7 @@ returns-in-default c =
     let long : length t.octets ≡ 8192 = search rules in
     let row : nth (entries_of t) c.args.i ≡ Some f = nth_row t.octets t.spans t.first t.start t.count c.args.i k (omega (arith, c.requires)) in
     let size : length f.0 ≡ c.locate-name.result.1 = row_name t.octets (t.start + space t.spans t.first k) s.name s.value (omega (arith, space_upto t.spans t.first k t.count (omega (arith, c.requires)), t.filled, t.within)) ∙ sym c.locate-name.ensures.name in
-    let after = c.clear.ensures.after ∙ insert_none t.limit f.0 value (entries_of t) (c.in-default.ensures ∙ ap (λ n. room_after t.limit n (length value)) (sym size)) in
+    let after = c.clear.ensures.after ∙ insert_none t.limit f.0 value (entries_of t) (c.in_default.ensures ∙ ap (λ n. room_after t.limit n (length value)) (sym size)) in
     let same = c.clear.ensures.same in
     let both : table_of c.clear.new.self ≡ record { limit = t.limit; entries = added t.limit (f.0, value) (entries_of t) } = λ j. record { limit = same j; entries = after j } in
     both ∙ ap (λ (o : Option Field). grown_like (table_of t) o value) (sym row)
@@ -37,12 +37,12 @@ returns c =
     let size : length f.0 ≡ c.locate-name.result.1 = row_name t.octets (t.start + space t.spans t.first k) s.name s.value (omega (arith, space_upto t.spans t.first k t.count (omega (arith, c.requires)), t.filled, t.within)) ∙ sym c.locate-name.ensures.name in
     let like : like_of (nth (entries_of t) c.args.i) value ≡ Some (f.0, value) = ap (λ (o : Option Field). like_of o value) row in
     let sum = insert_some t.limit c.in-Some.left f.0 value (entries_of t) (c.in-Some.ensures ∙ ap (λ n. room_after t.limit n (length value)) (sym size)) in
-    let a = c.make-room.ensures in
-    let b = c.append-like.ensures in
+    let a = c.make_room.ensures in
+    let b = c.append_like.ensures in
     let d = c.evict.ensures in
-    let kept : fitted c.in-Some.left (entries_of c.append-like.new.self) ≡ fitted c.in-Some.left (entries_of t) = ap (fitted c.in-Some.left) (b.after ∙ a.after) in
-    let t1 = c.make-room.new.self in
-    let t2 = c.append-like.new.self in
+    let kept : fitted c.in-Some.left (entries_of c.append_like.new.self) ≡ fitted c.in-Some.left (entries_of t) = ap (fitted c.in-Some.left) (b.after ∙ a.after) in
+    let t1 = c.make_room.new.self in
+    let t2 = c.append_like.new.self in
     let t3 = c.evict.new.self in
     let n : ℕ = c.locate-name.result.1 in
     let v : ℕ = length value in

@@ -12,8 +12,8 @@ returns c =
     let value : List ℕ = c.args.value.now in
     let long : length t.octets ≡ 8192 = search rules in
     let low : t.end ≤ length t.octets = omega (arith, t.within) in
-    let one = copied t.octets _ name t.end c.copy-from-slice.ensures.after in
-    let two = copied _ _ value (t.end + length name) c.copy-from-slice-2.ensures.after in
+    let one = copied t.octets _ name t.end c.copy_from_slice.ensures.after in
+    let two = copied _ _ value (t.end + length name) c.copy_from_slice-2.ensures.after in
     let is = two ∙ ap (λ (xs : List ℕ). paste xs (t.end + length name) value (length value)) one ∙ paste-paste t.octets t.end name value (length name) (length value) refl refl low in
     record {
       after = ap (λ (xs : List ℕ). rows xs t.spans t.first t.start t.count) is ∙ pasted_rows t.octets (name ++ value) t.spans t.first t.start t.count t.end _ t.filled low;

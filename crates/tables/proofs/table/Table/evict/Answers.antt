@@ -1,4 +1,4 @@
-use Rattle.std.proofs.Common.{◌≡◌, ◌-◌, length, sym, ap, ◌∙◌, arith, rules}
+use Rattle.std.proofs.Common.{◌≡◌, length, sym, ap, ◌∙◌, arith, rules}
 use Rattle.tables.specs.DynamicTable.{fitted}
 use Rattle.tables.proofs.Changes.{evict_more, evict_done}
 use Rattle.tables.proofs.table.Table.evict.Goals as goal
@@ -6,7 +6,7 @@ use Rattle.tables.proofs.table.Table.evict.Goals as goal
 pub loop-self-preserved : goal.loop-self-preserved
 loop-self-preserved c =
     let t = c.loop-self.self in
-    let e = c.evict-oldest.ensures in
+    let e = c.evict_oldest.ensures in
     let i = c.loop-self.invariant in
     let long : length t.octets ≡ 8192 = search rules in
     let more = evict_more t.octets t.spans t.first t.start t.count t.end c.args.room t.filled (omega (arith, t.within)) (omega arith) in

@@ -11,7 +11,7 @@ returns-then-self-needed-gt8192 c =
     let l : ℕ = t.end - t.start in
     let fits : t.start + l ≤ length t.octets = omega (arith, t.within, t.filled) in
     record {
-      after = ap (λ (xs : List ℕ). rows xs t.spans t.first 0 t.count) c.copy-within.ensures.after ∙ rows_same _ t.octets t.spans t.first 0 t.start l t.count (moved_front t.octets t.start l fits) (omega (arith, t.filled));
+      after = ap (λ (xs : List ℕ). rows xs t.spans t.first 0 t.count) c.copy_within.ensures.after ∙ rows_same _ t.octets t.spans t.first 0 t.start l t.count (moved_front t.octets t.start l fits) (omega (arith, t.filled));
       same = (refl, refl, refl, refl);
       fits = omega (arith, t.fits, t.small, c.requires);
     }
