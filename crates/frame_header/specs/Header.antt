@@ -1,6 +1,5 @@
 -- The nine octets before every payload: length (24 bits), type (8), flags (8), one ignored bit, stream (31).
-use Rattle.std.specs.Prelude.{ℕ, ◌+◌, ◌*◌, ◌%◌, List, [], ◌∷◌, ◌++◌, Option, slice_index}
-use Rattle.frame_header.specs.declared.flags.Flags.{Flags}
+use Rattle.std.specs.Prelude.{ℕ, List, [], ◌∷◌, ◌++◌, Option, slice_index}
 use Rattle.frame_header.specs.declared.header.Header.{Header}
 use Rattle.frame_header.specs.Codes.{kind_of, kind_number}
 use Rattle.frame_header.specs.Octets.{number24, number31, octets24, octets31, split_front}

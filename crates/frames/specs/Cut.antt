@@ -3,7 +3,6 @@ use Rattle.std.specs.Prelude.{ℕ, cond, List, length, take, Some, None, Option,
 use Rattle.frames.specs.declared.code.ErrorCode.TheVariants.{FrameSizeError}
 use Rattle.frames.specs.declared.cut.Refusal.{Refusal}
 use Rattle.frames.specs.declared.cut.Refusal.TheVariants.{Incomplete}
-use Rattle.frames.specs.declared.fault.Fault.{Fault}
 use Rattle.frames.specs.declared.fault.Scope.TheVariants.{Connection}
 use Rattle.frame_header.specs.declared.header.Header.{Header}
 use Rattle.frame_header.specs.Header.{split_header}

@@ -1,5 +1,5 @@
 -- The list of a SETTINGS frame: a name of 16 bits and a value of 32, pair after pair.
-use Rattle.std.specs.Prelude.{◌≡◌, ℕ, ◌+◌, ◌*◌, Bool, cond, ◌||◌, List, [], ◌∷◌, Some, None, Option, ◌==◌, nat_lt, slice_index}
+use Rattle.std.specs.Prelude.{ℕ, Bool, cond, ◌||◌, List, [], ◌∷◌, Some, None, Option, ◌==◌, nat_lt, slice_index}
 use Rattle.frames.specs.declared.code.ErrorCode.{ErrorCode}
 use Rattle.frames.specs.declared.code.ErrorCode.TheVariants.{ProtocolError, FlowControlError}
 use Rattle.frames.specs.declared.fault.Fault.{Fault}

@@ -1,5 +1,5 @@
 -- One frame from the front of what came, and what it says; a frame that was written is read as what was meant.
-use Rattle.std.specs.Prelude.{◌≡◌, ℕ, ◌+◌, ◌<◌, ◌≤◌, true, false, ◌⊎◌, List, [], ◌∷◌, ◌++◌, length, take, Ok, Err, Result}
+use Rattle.std.specs.Prelude.{◌≡◌, ℕ, ◌+◌, ◌<◌, ◌≤◌, true, false, ◌⊎◌, List, [], ◌++◌, length, take, Ok, Err, Result}
 use Rattle.frames.specs.declared.fault.Fault.{Fault}
 use Rattle.frames.specs.Codes.{code_number}
 use Rattle.frames.specs.Cut.{cut_of, longest}

@@ -1,5 +1,5 @@
 -- The octets of the frames that the engine sends.
-use Rattle.std.specs.Prelude.{ℕ, ◌+◌, ◌%◌, Bool, cond, List, [], ◌∷◌, ◌++◌, length, drop, Ok, Err, Result, nat_lt}
+use Rattle.std.specs.Prelude.{ℕ, ◌+◌, cond, List, [], ◌∷◌, ◌++◌, length, drop, Ok, Err, Result, nat_lt}
 use Rattle.frame_header.specs.declared.header.Header.{Header}
 use Rattle.frame_header.specs.declared.header.Kind.{Kind}
 use Rattle.frame_header.specs.declared.header.Kind.TheVariants.{Data, Headers, RstStream, Settings, Ping, GoAway, WindowUpdate}
