@@ -1,5 +1,5 @@
 -- The worked values, by computation.
-use Rattle.std.proofs.Common.{◌≡◌, Bool, true, false, refl}
+use Rattle.std.proofs.Common.{true, false, refl}
 use Rattle.scheduler.specs.Rounds.{quiet_below, following, walk}
 use Rattle.scheduler.specs.Urgencies.{least_lead, best}
 use Rattle.policies.specs.Worked.{answers, WorkedValues}

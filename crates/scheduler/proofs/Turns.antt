@@ -1,10 +1,10 @@
 -- A walk stops at the nearest place that offers, so between two turns of a place every other offering place is reached.
-use Rattle.std.proofs.Common.{◌≡◌, ℕ, zero, suc, ◌+◌, ◌-◌, ◌<◌, ◌≤◌, Bool, true, false, cond, not, ◌&&◌, eqb, ltb, ◌⊎◌, List, [], ◌∷◌, get_or, set, Some, None, Option, refl, ap, inl, inr, arith}
-use Rattle.std.specs.List.{AllByRecursion as All}
+use Rattle.std.proofs.Common.{◌≡◌, ℕ, zero, suc, ◌+◌, ◌<◌, ◌≤◌, Bool, true, false, cond, not, ◌&&◌, eqb, ltb, ◌⊎◌, List, [], ◌∷◌, set, Some, None, Option, refl, ap, inl, inr, arith}
+use Rattle.std.specs.List.{AllByRecursion}
 use Rattle.std.proofs.lemmas.List.Sums.{sum_by-cons}
 use Rattle.std.proofs.lemmas.Bool.{cond_both, ltb-true, ltb-false}
 use Rattle.scheduler.specs.declared.offer.Offer.{Offer}
-use Rattle.scheduler.specs.Offers.{octets_at, charge_at, Offering, largest}
+use Rattle.scheduler.specs.Offers.{octets_at, Offering}
 use Rattle.scheduler.specs.Rounds.{quiet_below, following, walk, covers, leaves, drr_pick, standing}
 use Rattle.scheduler.specs.Turns.{Turn, counted, turns, turns_of, Reached}
 use Rattle.scheduler.specs.Debts.{back}
@@ -68,7 +68,7 @@ module _ (i j : ℕ) (hi : i < 16) (hj : j < 16) (ne : i ≡ j → ⊥) where
   standing-below os p None begun hp moved = hp
   standing-below os p (Some k) begun hp moved = elim moved [ inl stays ↦ omega (arith, stays.0) | inr walks ↦ walks.0.0 ]
 
-  level : (rows : List (List Offer)) (bs : List ℕ) (p : ℕ) → p < 16 → All (λ os. Offering os j) rows → Level p (turns bs p rows)
+  level : (rows : List (List Offer)) (bs : List ℕ) (p : ℕ) → p < 16 → AllByRecursion (λ os. Offering os j) rows → Level p (turns bs p rows)
   unfolding after
   level [] bs p hp off = cond_both (ltb (back p i) (back j i)) 1 0 (λ x. 0 + x ≤ 0 + 1) (λ _. omega arith) (λ _. omega arith)
   level (os ∷ rows) bs p hp off =

@@ -1,5 +1,5 @@
 -- The lag and the debts of the two schedulers, and the bounds on their numbers that make them so.
-use Rattle.std.specs.Prelude.{◌≡◌, ℕ, ◌+◌, ◌-◌, ◌*◌, ◌<◌, ◌≤◌, cond, List, Some, None, Option, ◌≢◌, nat_le, nat_lt, slice_index, slice_index_or}
+use Rattle.std.specs.Prelude.{ℕ, ◌+◌, ◌-◌, ◌*◌, ◌<◌, ◌≤◌, cond, List, Some, None, Option, ◌≢◌, nat_le, nat_lt, slice_index, slice_index_or}
 use Rattle.scheduler.specs.declared.offer.Offer.{Offer}
 use Rattle.scheduler.specs.Offers.{largest, Offering, Quiet}
 use Rattle.scheduler.specs.Fair.{Repaid}

@@ -1,6 +1,6 @@
 -- Runs of picks over rows of offers, and the law that every run keeps.
 use Rattle.std.specs.Prelude.{◌≡◌, ℕ, ◌+◌, ◌<◌, ◌≤◌, cond, List, [], ◌∷◌, length, take, drop, Some, sum_by, ◌==◌, ◌≢◌, slice_index_or}
-use Rattle.std.specs.List.{AllByRecursion as All}
+use Rattle.std.specs.List.{AllByRecursion}
 use Rattle.scheduler.specs.declared.offer.Offer.{Offer}
 use Rattle.scheduler.specs.declared.pick.Pick.{Pick}
 use Rattle.scheduler.specs.declared.pick.Stop.{Stop}
@@ -22,7 +22,7 @@ charged picks k = sum_by (λ p. cond (p.place == k) p.charge 0) picks
 
 -- Place i offers in each row.
 abbrev pub Always : ℕ → List (List Offer) → Type 0
-Always i rows = All (λ os. Offering os i) rows
+Always i rows = AllByRecursion (λ os. Offering os i) rows
 
 -- Over any n picks on end, after the first m: where place i offered at each, no other place is charged more than i plus the lag.
 abbrev pub RunLaw : ℕ → List (List Offer) → List Pick → Type 0

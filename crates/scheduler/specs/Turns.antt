@@ -1,6 +1,6 @@
 -- Turns of deficit round robin: between two turns of a place, every other place that keeps offering is reached.
-use Rattle.std.specs.Prelude.{◌≡◌, ℕ, ◌<◌, ◌≤◌, Bool, not, ◌&&◌, List, [], ◌∷◌, Some, None, count_by, Option, ◌==◌, ◌≢◌}
-use Rattle.std.specs.List.{AllByRecursion as All}
+use Rattle.std.specs.Prelude.{ℕ, ◌<◌, ◌≤◌, Bool, not, ◌&&◌, List, [], ◌∷◌, Some, None, count_by, Option, ◌==◌, ◌≢◌}
+use Rattle.std.specs.List.{AllByRecursion}
 use Rattle.scheduler.specs.declared.offer.Offer.{Offer}
 use Rattle.scheduler.specs.Offers.{Offering}
 use Rattle.scheduler.specs.Rounds.{covers, drr_pick, standing}
@@ -28,5 +28,5 @@ turns_of k ts = count_by (λ t. t.begun && t.place == k) ts
 -- between two turns of i every other place that keeps offering is reached.
 abbrev pub Reached : List ℕ → ℕ → Type 0
 Reached bs i =
-    (j : ℕ) (rows : List (List Offer)) → j < 16 → (i ≢ j) → All (λ os. Offering os j) rows
+    (j : ℕ) (rows : List (List Offer)) → j < 16 → (i ≢ j) → AllByRecursion (λ os. Offering os j) rows
     → turns_of i (turns bs i rows) ≤ turns_of j (turns bs i rows)

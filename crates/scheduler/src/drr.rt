@@ -1,8 +1,8 @@
 // Deficit round robin.
-ghost use Rattle.std.specs.Prelude.{◌≡◌, ℕ, ◌+◌, ◌-◌, ◌*◌, ◌<◌, ◌≤◌, length, replicate, ◌≢◌, slice_index};
+ghost use Rattle.std.specs.Prelude.{◌≡◌, ℕ, ◌+◌, ◌-◌, ◌*◌, ◌<◌, ◌≤◌, replicate, ◌≢◌, slice_index};
 ghost use Rattle.scheduler.specs.Fair.{Fair};
 ghost use Rattle.scheduler.specs.Offers.{charge_of, largest};
-ghost use Rattle.scheduler.specs.Rounds.{quiet_below, following, walk as walkOver, covers, leaves, drr_pick, standing};
+ghost use Rattle.scheduler.specs.Rounds.{quiet_below, following, walk as walk_over, covers, leaves, drr_pick, standing};
 ghost use Rattle.scheduler.specs.Turns.{Reached};
 ghost use Rattle.scheduler.specs.Debts.{drr_lag, drr_debt, Arrived, ahead};
 ghost use borrow.Author.Rules.{rules};
@@ -88,8 +88,8 @@ fn paid(balance: u32, o: &Offer) -> u32
 
 // On from a place to the next that offers, which is given T and pays its charge.
 fn walk(balances: &mut Balances, start: usize, offers: &Row) -> Option<usize>
-    requires { (start < 16) × (((k : ℕ) → slice_index balances.old k ≤ largest - 1)) }
-    ensures value { (result, balances.new) ≡ walkOver 16 balances.old start offers.now }
+    requires { (start < 16) × ((k : ℕ) → slice_index balances.old k ≤ largest - 1) }
+    ensures value { (result, balances.new) ≡ walk_over 16 balances.old start offers.now }
     ensures cases { Arrived balances.old start offers.now result balances.new }
 {
     let mut p = start;

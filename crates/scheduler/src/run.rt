@@ -1,5 +1,5 @@
 // Runs of picks over rows of offers.
-ghost use Rattle.std.specs.Prelude.{◌≡◌, ℕ, ◌<◌, ◌≤◌, length, take, drop, slice_index_or};
+ghost use Rattle.std.specs.Prelude.{◌≡◌, ◌<◌, length, take, drop, slice_index_or};
 ghost use Rattle.scheduler.specs.Runs.{Ran, RunLaw, Ended, Stopped};
 
 use super::meaning::Scheduler;

@@ -1,10 +1,10 @@
 // The most urgent first, of the places that are not too far ahead.
 ghost use Rattle.std.specs.Prelude.{◌≡◌, ℕ, ◌+◌, ◌-◌, ◌<◌, ◌≤◌, replicate, MatchOption, slice_index};
 ghost use Rattle.scheduler.specs.Fair.{Fair};
-ghost use Rattle.scheduler.specs.Urgencies.{lesser as lesserOf, least_lead, better, eligible, lessened, beats, best, urgency_pick};
+ghost use Rattle.scheduler.specs.Urgencies.{lesser as lesser_of, least_lead, better, eligible, lessened, beats, best, urgency_pick};
 ghost use Rattle.scheduler.specs.Debts.{most_lead, urgency_lag, urgency_debt};
 ghost use Rattle.scheduler.specs.Chosen.{LeastIs, ChosenIs, Foremost};
-ghost use Rattle.std.proofs.Common.{rules, arith};
+ghost use Rattle.std.proofs.Common.{rules};
 
 use super::meaning::Scheduler;
 use super::offer::{Offer, Row};
@@ -35,7 +35,7 @@ impl Urgency {
 
 // The lesser of the least so far and x.
 fn lesser(least: Option<u32>, x: u32) -> Option<u32>
-    ensures { result ≡ lesserOf least x }
+    ensures { result ≡ lesser_of least x }
 {
     match least {
         None => Some(x),
@@ -130,7 +130,7 @@ impl Scheduler for Urgency {
 
     ghost debt = { λ s. urgency_debt s.leads };
 
-    ghost bounded = { first_of (Prim.search rules, Prim.grind (arith, Self.row.coded.inj)) };
+    ghost bounded = { Prim.search rules };
 
     fn lag(&self) -> u64
         ensures { result ≡ urgency_lag }

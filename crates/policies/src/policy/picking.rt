@@ -1,5 +1,5 @@
 // A policy is a scheduler: each call is that of the scheduler it holds.
-ghost use Rattle.std.specs.Prelude.{◌≡◌, ℕ};
+ghost use Rattle.std.specs.Prelude.{◌≡◌};
 ghost use Rattle.scheduler.specs.Fair.{Fair};
 ghost use Rattle.policies.specs.Policies.{policy_lag, policy_debt, Stepped};
 ghost use borrow.Author.Rules.{rules};

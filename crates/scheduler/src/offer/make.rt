@@ -1,5 +1,5 @@
 // Making and reading offers.
-ghost use Rattle.std.specs.Prelude.{◌≡◌, ℕ, ◌<◌, ◌≤◌, false, Ok, nat_lt};
+ghost use Rattle.std.specs.Prelude.{◌≡◌, ◌<◌, ◌≤◌, false, Ok, nat_lt};
 ghost use Rattle.scheduler.specs.Offers.{charge_of, largest, Made};
 
 use super::{Offer, OutOfRange};

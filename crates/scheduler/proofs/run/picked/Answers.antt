@@ -1,4 +1,4 @@
-use Rattle.std.proofs.Common.{◌≡◌, ℕ, ◌+◌, ◌<◌, ◌≤◌, List, [], ◌∷◌, ◌++◌, length, get_or, take, drop, sym, ap, ◌∙◌, subst, arith, length-set}
+use Rattle.std.proofs.Common.{◌≡◌, ◌+◌, ◌<◌, List, [], ◌∷◌, ◌++◌, length, get_or, take, drop, sym, ap, ◌∙◌, subst, arith, length-set}
 use Rattle.std.proofs.lemmas.List.{take_more, take_more_set, drop-set-lt, drop-drop, get_or_read}
 use Rattle.scheduler.specs.declared.offer.Offer.{Offer}
 use Rattle.scheduler.specs.declared.pick.Pick.{Pick}
@@ -21,7 +21,7 @@ loop-n-preserved g c =
     let P : List (List Offer) → Type 0 = λ rs. Ran m.lag m.debt c.args.scheduler.now rs (take n c.loop-n.picks ++ (pick ∷ [])) c.pick.new.self in
     let Q : List Pick → Type 0 = λ ps. Ran m.lag m.debt c.args.scheduler.now (take (n + 1) c.args.rows.now) ps c.pick.new.self in
     let pushed = ran-push m.lag m.debt c.args.scheduler.now c.loop-n.scheduler c.pick.new.self (take n c.args.rows.now) (take n c.loop-n.picks) row pick
-    c.loop-n.invariant.3 c.in-Some.ensures (c.charge-charge.ensures.value ∙ ap charge_of c.offer-at.ensures) in (
+    c.loop-n.invariant.3 c.in-Some.ensures (c.charge-charge.ensures.value ∙ ap charge_of c.offer_at.ensures) in (
       omega arith,
       omega (arith, long),
       long ∙ c.loop-n.invariant.2,
@@ -29,15 +29,15 @@ loop-n-preserved g c =
       drop-set-lt (n + 1) c.loop-n.picks n pick (omega arith) ∙ sym (drop-drop 1 n c.loop-n.picks) ∙ ap (drop 1) c.loop-n.invariant.4 ∙ drop-drop 1 n c.args.picks.now,
     )
 
-pub returns-in-default : goal.returns-in-default
-returns-in-default g c =
+pub returns-in_default : goal.returns-in_default
+returns-in_default g c =
     let m = g.S.Scheduler in
     let n = c.loop-n.n in
     let h : n < length c.args.rows.now = omega arith in
     let row : c.item-row.result ≡ get_or c.args.rows.now n [] = get_or_read c.args.rows.now n c.item-row.result h c.item-row.ensures [] in
-    let run = subst (Ran m.lag m.debt c.args.scheduler.now (take n c.args.rows.now) (take n c.loop-n.picks)) (sym c.in-default.ensures.1) c.loop-n.invariant.3 in
+    let run = subst (Ran m.lag m.debt c.args.scheduler.now (take n c.args.rows.now) (take n c.loop-n.picks)) (sym c.in_default.ensures.1) c.loop-n.invariant.3 in
     record {
-      cases = (omega arith, omega arith, λ _ _. subst Quiet row c.in-default.ensures.0);
+      cases = (omega arith, omega arith, λ _ _. subst Quiet row c.in_default.ensures.0);
       items = run;
       same = c.loop-n.invariant.4;
       fair = run-law m.lag m.debt g.met.S.Scheduler.bounded c.args.scheduler.now c.pick.new.self _ _ run;

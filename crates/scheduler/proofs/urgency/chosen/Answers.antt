@@ -1,9 +1,9 @@
-use Rattle.std.proofs.Common.{◌≡◌, ◌+◌, sym, ap, ◌∙◌, subst, arith, rules}
+use Rattle.std.proofs.Common.{◌≡◌, ◌+◌, sym, ap, ◌∙◌, subst, arith}
 use Rattle.scheduler.specs.Urgencies.{best}
 use Rattle.scheduler.specs.Chosen.{ChosenIs}
 use Rattle.scheduler.proofs.Bests.{chosen-holds, Within, chosen_none, chosen-takes, chosen-skips, within_more, within-better}
 use Rattle.scheduler.proofs.urgency.chosen.Goals as goal
-use Rattle.scheduler.proofs.urgency.chosen.Goals.{then_May, else-may}
+use Rattle.scheduler.proofs.urgency.chosen.Goals.{then-may, else-may}
 
 pub loop-i-init : goal.loop-i-init
 loop-i-init c = (sym (chosen_none c.args.leads.now c.args.offers.now), tt)
@@ -14,7 +14,7 @@ loop-i-preserved c =
     let os = c.args.offers.now in
     let i = c.loop-i.i in
     elim c.if-may.branch [
-      | then_May w ↦ (let t = chosen-takes ls os i (sym c.may.ensures ∙ w.if-may.true) in
+      | then-may w ↦ (let t = chosen-takes ls os i (sym c.may.ensures ∙ w.if-may.true) in
           (cc, subst (λ o. Within o (i + 1)) (sym (w.found-is ∙ w.front-found.ensures)) (within-better ls os c.loop-i.found i c.loop-i.invariant.1)))
       | else-may w ↦ (let t = chosen-skips ls os i (sym c.may.ensures ∙ w.if-may.false) in
           (cc, subst (λ o. Within o (i + 1)) (sym w.found-is) (within_more c.loop-i.found i c.loop-i.invariant.1)))

@@ -1,4 +1,4 @@
-use Rattle.std.proofs.Common.{◌≡◌, ◌<◌, ◌≤◌, IfSome}
+use Rattle.std.proofs.Common.{◌≡◌, ◌<◌, IfSome}
 use Rattle.scheduler.specs.Urgencies.{best}
 use Rattle.scheduler.proofs.urgency.chosen.Given as goal
 

@@ -1,10 +1,10 @@
-use Rattle.std.proofs.Common.{◌≡◌, ◌≤◌, sym, ap, ◌∙◌, subst, arith, rules}
+use Rattle.std.proofs.Common.{◌≡◌, sym, ap, ◌∙◌, subst, arith}
 use Rattle.scheduler.specs.Urgencies.{least_lead}
 use Rattle.scheduler.specs.Chosen.{LeastIs}
 use Rattle.scheduler.proofs.Quiets.{has_offering, has_none}
 use Rattle.scheduler.proofs.Leasts.{least-holds, least-none, least-takes, least-skips}
 use Rattle.scheduler.proofs.urgency.least.Goals as goal
-use Rattle.scheduler.proofs.urgency.least.Goals.{then-has-octets, else-has-octets}
+use Rattle.scheduler.proofs.urgency.least.Goals.{then-has_octets, else-has_octets}
 
 pub loop-i-init : goal.loop-i-init
 loop-i-init c = sym (least-none c.args.leads.now c.args.offers.now)
@@ -14,9 +14,9 @@ loop-i-preserved c =
     let ls = c.args.leads.now in
     let os = c.args.offers.now in
     let i = c.loop-i.i in
-    elim c.if-has-octets.branch [
-      | then-has-octets w ↦ (let t = least-takes ls os i (has_offering os i c.offer-at.result c.has-octets.result c.offer-at.ensures c.has-octets.ensures w.if-has-octets.true) in cc)
-      | else-has-octets w ↦ (let t = least-skips ls os i (has_none os i c.offer-at.result c.has-octets.result c.offer-at.ensures c.has-octets.ensures w.if-has-octets.false) in cc)
+    elim c.if-has_octets.branch [
+      | then-has_octets w ↦ (let t = least-takes ls os i (has_offering os i c.offer_at.result c.has_octets.result c.offer_at.ensures c.has_octets.ensures w.if-has_octets.true) in cc)
+      | else-has_octets w ↦ (let t = least-skips ls os i (has_none os i c.offer_at.result c.has_octets.result c.offer_at.ensures c.has_octets.ensures w.if-has_octets.false) in cc)
     ]
 
 pub returns : goal.returns
