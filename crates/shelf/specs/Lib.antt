@@ -1,5 +1,5 @@
+pub mod Laws
 pub mod Refusals
 pub mod Shelves
 pub mod Steps
 pub mod Views
-pub mod Entries

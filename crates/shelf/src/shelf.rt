@@ -3,14 +3,11 @@ ghost use Rattle.std.specs.Prelude.{◌≡◌, ℕ, ◌+◌, ◌<◌, ◌≤◌,
 ghost use Rattle.std.specs.Option.{option_map};
 ghost use Rattle.shelf.specs.Shelves.{entry_of, shelf_held, shelf_named, size_of, well_formed};
 ghost use Rattle.site.specs.Sites.{Filled, Opened};
-ghost use Rattle.site.specs.Spans.{Finds, within, span_at};
+ghost use Rattle.site.specs.Spans.{Finds, within};
 ghost use Rattle.std.specs.Str.{bytes_eq};
 ghost use Rattle.shelf.specs.Steps.{NextIs};
 ghost use Rattle.shelf.specs.Views.{view_head};
-ghost use Rattle.shelf.specs.Entries.{shelf_bounded};
-ghost use Rattle.std.proofs.Common.{arith, rules};
-ghost use Rattle.site.specs.Found.{cap_low};
-ghost use Rattle.site.proofs.Parting.{within_short};
+ghost use Rattle.shelf.specs.Laws.{shelf_bounded, shelf_held_beyond, shelf_held_short};
 
 use super::copy::copy_from;
 use super::lends::Lends;
@@ -159,9 +156,9 @@ impl<L: Lends> Site for Shelf<L> {
 
     ghost bounded = { λ s path. shelf_bounded (L.Lends.lent s.lender) path };
 
-    ghost held = { λ s place. omega (arith, within_short (span_at s.table.spans place) (L.Lends.lent s.lender), cap_low s.table.spans place) };
+    ghost held = { λ s place. shelf_held_short (L.Lends.lent s.lender) s.table.spans place };
 
-    ghost beyond = { Prim.search rules };
+    ghost beyond = { λ s place high. shelf_held_beyond (L.Lends.lent s.lender) s.table.spans place high };
 
     fn open(&mut self, place: usize, path: &[u8]) -> Option<u32>
         ensures { Opened {W = Shelf L} (λ s. shelf_named (L.Lends.lent s.lender)) (λ s. shelf_held (L.Lends.lent s.lender) s.table.spans) self.old self.new place path.now result }

@@ -1,2 +1,4 @@
+pub mod Found
+mod Liner
 pub mod Parting
 mod Reading

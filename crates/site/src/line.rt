@@ -1,11 +1,9 @@
 // The line test: a site that names /line/N for each N up to a million.
 ghost use Rattle.std.specs.Prelude.{◌≡◌, ℕ, ◌+◌, ◌%◌, ◌^◌, ◌<◌, ◌≤◌, length, IfSome};
-ghost use Rattle.std.proofs.Common.{ap, ◌∙◌, arith};
 ghost use Rattle.site.specs.Sites.{Filled, Opened};
 ghost use Rattle.site.specs.Spans.{Finds, nothing, span_at};
 ghost use Rattle.site.specs.Lines.{line_from, line_held, line_length, line_named, line_of};
-ghost use Rattle.site.specs.Liner.{line_bounded, length_line, line_none};
-ghost use Rattle.site.specs.Found.{cap_low, no_span};
+ghost use Rattle.site.specs.Laws.{line_bounded, line_held_beyond, line_held_short};
 
 use super::digits::number;
 use super::site::Site;
@@ -74,9 +72,9 @@ impl Site for LineTest {
 
     ghost bounded = { λ s path. line_bounded path };
 
-    ghost held = { λ s place. omega (arith, length_line 0 (span_at s.table.spans place).count, cap_low s.table.spans place) };
+    ghost held = { λ s place. line_held_short s.table.spans place };
 
-    ghost beyond = { λ s place high. ap line_of (no_span place s.table.spans high) ∙ line_none 0 };
+    ghost beyond = { λ s place high. line_held_beyond s.table.spans place high };
 
     fn open(&mut self, place: usize, path: &[u8]) -> Option<u32>
         ensures { Opened {W = LineTest} (λ s. line_named) (λ s. line_held s.table.spans) self.old self.new place path.now result }

@@ -1,3 +1,4 @@
 mod Cuts
 mod Ranges
+mod Sliced
 mod Tallies

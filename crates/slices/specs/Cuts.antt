@@ -1,5 +1,5 @@
 -- Where a text of octets is cut.
-use Rattle.std.specs.Prelude.{◌≡◌, ℕ, zero, suc, ◌<◌, ◌≤◌, cond, List, length, take, drop, Some, None, Option, ◌==◌, ◌≢◌, slice_index}
+use Rattle.std.specs.Prelude.{ℕ, zero, suc, ◌<◌, ◌≤◌, cond, List, length, take, drop, Some, None, Option, ◌==◌, ◌≢◌, slice_index}
 
 -- Of the first n octets of a text, the last that is the mark cuts it: what stands before it, and what stands after it.
 unfoldable pub cut_below : ℕ → List ℕ → ℕ → Option (List ℕ × List ℕ)

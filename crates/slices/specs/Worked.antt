@@ -1,5 +1,5 @@
 -- Worked values of the definitions, which a reader can follow by hand.
-use Rattle.std.specs.Prelude.{◌≡◌, ℕ, List, [], ◌∷◌, Some, None, codes}
+use Rattle.std.specs.Prelude.{◌≡◌, [], ◌∷◌, Some, None, codes}
 use Rattle.site.specs.Lines.{line_named}
 use Rattle.slices.specs.Slices.{slice_named}
 

@@ -1,13 +1,9 @@
 // Slices: a site above any other, which also names parts of what that one names.
 ghost use Rattle.std.specs.Prelude.{◌≡◌, ℕ, ◌+◌, ◌-◌, ◌<◌, ◌≤◌, List, [], length, Some, ◌≢◌};
-ghost use Rattle.std.proofs.Common.{ap, arith};
 ghost use Rattle.slices.specs.Slices.{cut_count, cut_out, slice_held, slice_named};
 ghost use Rattle.site.specs.Sites.{Filled, Opened};
 ghost use Rattle.site.specs.Spans.{Finds, nothing, span_at, within};
-ghost use Rattle.slices.specs.Sliced.{slice_bounded};
-ghost use Rattle.site.specs.Found.{cap_low, no_span};
-ghost use Rattle.site.proofs.Parting.{within_short};
-ghost use Rattle.site.specs.declared.span.Span.{Span};
+ghost use Rattle.slices.specs.Laws.{slice_bounded, slice_held_beyond, slice_held_short};
 
 use super::range::{Asked, ask};
 use site::site::Site;
@@ -88,9 +84,9 @@ impl<S: Site> Site for Slice<S> {
 
     ghost bounded = { λ s path. slice_bounded (S.Site.named s.below) path (S.Site.bounded s.below) };
 
-    ghost held = { λ s place. omega (arith, within_short (span_at s.ranges.spans place) (S.Site.holds s.below place), cap_low s.ranges.spans place) };
+    ghost held = { λ s place. slice_held_short (S.Site.holds s.below) s.ranges.spans place };
 
-    ghost beyond = { λ s place high. ap (λ (span : Span). within span (S.Site.holds s.below place)) (no_span place s.ranges.spans high) };
+    ghost beyond = { λ s place high. slice_held_beyond (S.Site.holds s.below) s.ranges.spans place high };
 
     fn open(&mut self, place: usize, path: &[u8]) -> Option<u32>
         ensures { Opened {W = Slice S} (λ s. slice_named (S.Site.named s.below)) (λ s. slice_held (S.Site.holds s.below) s.ranges.spans) self.old self.new place path.now result }

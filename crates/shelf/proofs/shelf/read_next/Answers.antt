@@ -1,8 +1,8 @@
 -- The end, octets that are no entry, or an entry.
-use Rattle.std.proofs.Common.{◌≡◌, ◌+◌, ◌<◌, ◌≤◌, true, false, [], ◌∷◌, length, drop, sym, ap, ◌∙◌, arith}
+use Rattle.std.proofs.Common.{◌+◌, true, false, [], ◌∷◌, sym, ap, ◌∙◌, arith}
 use Rattle.std.proofs.lemmas.List.{drop_all}
 use Rattle.shelf.specs.Shelves.{first_of, shelf_named, well_formed}
-use Rattle.shelf.specs.Entries.{along_none, at_none, formed_step, named_here, named_step}
+use Rattle.shelf.proofs.Entries.{along_none, at_none, formed_step, named_here, named_step}
 use Rattle.site.proofs.Parting.{part_long}
 use Rattle.shelf.proofs.shelf.read_next.Goals as goal
 
@@ -15,21 +15,21 @@ returns-then-at-row c =
 
 pub returns-in-None : goal.returns-in-None
 returns-in-None c =
-    let rest = c.split-at.result.1.now in (
-      sym (at_none true false (λ e later. later) c.args.row.now rest c.args.at c.split-at.ensures.back c.if-at-row.false c.in-None.ensures.value),
-      λ path. sym (ap (first_of path) (at_none [] [] (λ e later. e ∷ later) c.args.row.now rest c.args.at c.split-at.ensures.back c.if-at-row.false c.in-None.ensures.value)),
+    let rest = c.split_at.result.1.now in (
+      sym (at_none true false (λ e later. later) c.args.row.now rest c.args.at c.split_at.ensures.back c.if-at-row.false c.in-None.ensures.value),
+      λ path. sym (ap (first_of path) (at_none [] [] (λ e later. e ∷ later) c.args.row.now rest c.args.at c.split_at.ensures.back c.if-at-row.false c.in-None.ensures.value)),
     )
 
 pub returns-in-Some : goal.returns-in-Some
 returns-in-Some c =
     let h = c.in-Some.head in
     let row = c.args.row.now in
-    let rest = c.split-at.result.1.now in
-    let back = c.split-at.ensures.back in
+    let rest = c.split_at.result.1.now in
+    let back = c.split_at.ensures.back in
     let low = c.if-at-row.false in
     let read = c.in-Some.ensures.value in
     let bound = c.in-Some.ensures.bound in
-    let lens = c.split-at.ensures.back_len in
+    let lens = c.split_at.ensures.back_len in
     record {
       inside = omega arith;
       some = omega arith;

@@ -1,20 +1,20 @@
 -- The loop's step and its two ends, by what the octet read is.
-use Rattle.std.proofs.Common.{◌≡◌, ◌<◌, ◌≤◌, sym, ◌∙◌, arith, rules}
+use Rattle.std.proofs.Common.{sym, ◌∙◌, arith}
 use Rattle.site.proofs.Reading.{read_digit, read_other, read_end, room, more}
 use Rattle.site.proofs.digits.digits.Goals as goal
 
-pub returns-in-default : goal.returns-in-default
-returns-in-default c =
-    let other = read_other c.loop-c.value c.args.text.now c.loop-c.c-index c.loop-c-test.true c.in-default.ensures.value in
+pub returns-in_default : goal.returns-in_default
+returns-in_default c =
+    let other = read_other c.loop-c.value c.args.text.now c.loop-c.c-index c.loop-c-test.true c.in_default.ensures.value in
     cc c.loop-c.invariant.0
 
-pub overflow-mul-value : goal.overflow-mul-value
-overflow-mul-value c =
+pub overflow_mul-value : goal.overflow_mul-value
+overflow_mul-value c =
     let low = room c.loop-c.value c.loop-c.c-index c.loop-c.invariant.1 (omega arith) in
     omega arith
 
-pub overflow-add-value : goal.overflow-add-value
-overflow-add-value c =
+pub overflow_add-value : goal.overflow_add-value
+overflow_add-value c =
     let low = room c.loop-c.value c.loop-c.c-index c.loop-c.invariant.1 (omega arith) in
     let d = c.in-Some.ensures.bound in
     omega arith

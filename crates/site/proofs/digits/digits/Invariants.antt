@@ -1,5 +1,5 @@
 -- What is left of the text, read on from the value so far, is the whole text read.
-use Rattle.std.proofs.Common.{◌≡◌, ◌^◌, ◌<◌, ◌≤◌, length, drop}
+use Rattle.std.proofs.Common.{◌≡◌, ◌^◌, ◌<◌, drop}
 use Rattle.site.specs.Texts.{read_on}
 use Rattle.site.proofs.digits.digits.Given as goal
 

@@ -1,5 +1,5 @@
 -- One more octet of the piece, and all of them.
-use Rattle.std.proofs.Common.{◌≡◌, ◌++◌, sym, ap, ◌∙◌, arith}
+use Rattle.std.proofs.Common.{◌++◌, sym, ap, ◌∙◌, arith}
 use Rattle.std.proofs.lemmas.List.{append-nil, take_all}
 use Rattle.slices.specs.Surveys.{tally_of}
 use Rattle.slices.proofs.Tallies.{tally_more}

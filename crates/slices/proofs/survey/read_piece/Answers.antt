@@ -1,5 +1,5 @@
 -- A piece goes on with what was read, and without one all has been read.
-use Rattle.std.proofs.Common.{◌≡◌, ◌+◌, ◌-◌, ◌<◌, ◌≤◌, min, length, take, drop, sym, ap, ◌∙◌, arith}
+use Rattle.std.proofs.Common.{◌-◌, take, drop, ap, ◌∙◌, arith}
 use Rattle.slices.specs.Surveys.{tally_of}
 use Rattle.slices.proofs.Tallies.{read_on, survey_all}
 use Rattle.slices.proofs.survey.read_piece.Goals as goal

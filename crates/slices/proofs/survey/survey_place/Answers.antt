@@ -1,5 +1,5 @@
 -- Nothing is read at first.
-use Rattle.std.proofs.Common.{◌-◌, ◌≤◌, drop, arith}
+use Rattle.std.proofs.Common.{◌-◌, drop, arith}
 use Rattle.slices.proofs.Tallies.{tally_none}
 use Rattle.slices.proofs.survey.survey_place.Goals as goal
 

@@ -4,8 +4,8 @@ use Rattle.std.proofs.lemmas.Bool.{cases_lt}
 use Rattle.site.specs.Lines.{line_of}
 use Rattle.site.specs.declared.line.LineTest.{LineTest}
 use Rattle.site.specs.declared.table.Table.{Table}
-use Rattle.site.specs.Found.{no_span, stays, opens}
-use Rattle.site.specs.Liner.{line_none}
+use Rattle.site.proofs.Found.{stays, opens}
+use Rattle.site.specs.Laws.{line_none, no_span}
 use Rattle.site.proofs.line.LineTestSite.open.Goals as goal
 
 made : Table → LineTest
@@ -16,8 +16,8 @@ unfolding made
 returns c =
     ⊎_elim
     (λ low.
-    opens _ _ c.args.self.now (made c.hold.new.self) c.args.place c.args.path.now c.hold.result line_of c.line-span.result
-    low (line_none 0) c.line-span.ensures (c.hold.ensures.value low) (ap line_of (c.hold.ensures.here low))
+    opens _ _ c.args.self.now (made c.hold.new.self) c.args.place c.args.path.now c.hold.result line_of c.line_span.result
+    low (line_none 0) c.line_span.ensures (c.hold.ensures.value low) (ap line_of (c.hold.ensures.here low))
     (λ other apart. ap line_of (c.hold.ensures.places other apart)) (λ p. refl))
     (λ high.
     stays _ _ c.args.self.now (made c.hold.new.self) c.args.place c.args.path.now c.hold.result

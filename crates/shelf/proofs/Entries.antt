@@ -1,12 +1,10 @@
 -- The entries of a row, one after another.
-use Rattle.std.specs.Prelude.{◌≡◌, ℕ, zero, suc, ◌+◌, ◌-◌, ◌<◌, ◌≤◌, min, Bool, true, false, cond, ◌&&◌, List, [], ◌∷◌, length, take, drop, Some, None, Decides, Option, nat_le, nat_lt, slice_index, refl}
-use Rattle.std.proofs.Common.{sym, ap, ◌∙◌, arith, rules, length-take, length-drop}
+use Rattle.std.specs.Prelude.{◌≡◌, ℕ, zero, suc, ◌+◌, ◌-◌, ◌<◌, ◌≤◌, true, false, ◌&&◌, List, [], ◌∷◌, length, take, drop, Some, None, Option, nat_le, nat_lt, slice_index, refl}
+use Rattle.std.proofs.Common.{sym, ap, ◌∙◌, arith, length-drop}
 use Rattle.std.specs.Str.{bytes_eq}
-use Rattle.std.proofs.lemmas.Slice.Eq.{bytes_eq-Decides}
 use Rattle.std.proofs.lemmas.List.{drop-drop}
-use Rattle.std.proofs.lemmas.Bool.{and_parts, cond_both, cond-true, cond-false, ltb-true}
-use Rattle.site.specs.Sites.{Bounded}
-use Rattle.shelf.specs.Shelves.{Entry, along, entries_of, entry_of, first_of, onward, shelf_named, size_of, walk, well_formed}
+use Rattle.std.proofs.lemmas.Bool.{cond_both, cond-true, cond-false}
+use Rattle.shelf.specs.Shelves.{Entry, along, entry_of, first_of, onward, shelf_named, size_of, walk, well_formed}
 
 -- An entry leaves less of its row.
 entry_short : (row : List ℕ) → 0 < length row → (e : Entry) → entry_of row ≡ Some e → length e.rest < length row
@@ -106,50 +104,3 @@ named_here row rest path wanted at start size is low read same =
     sym (ap (first_of wanted) (at_entry [] [] (λ e later. e ∷ later) row rest path at start size is low read)
     ∙ cond-true _ _ _ same
     ∙ ap (λ xs. Some (take size xs)) (left_over row rest at start is))
-
--- The content of an entry is bounded by its size.
-entry_small : (row : List ℕ) (e : Entry) → entry_of row ≡ Some e → length e.content ≤ 2147483647
-entry_small row e is =
-    cond_both (nat_le 1 n && nat_le n 64 && nat_le (5 + n) (length row) && nat_lt size 2147483648 && nat_le (5 + n + size) (length row)) (Some first) None
-    (λ o. o ≡ Some e → length e.content ≤ 2147483647)
-    (λ fits same.
-    let contents : take size (drop (5 + n) row) ≡ e.content = cc in
-    small (ltb-true size 2147483648 (and_parts _ _ (and_parts _ _ fits).0).1) (ap length (sym contents) ∙ length-take size (drop (5 + n) row)))
-    (λ _ same. let z : ◌≡◌ {A = ℕ} 0 1 = cc in clash z)
-    is
-  where
-    n : ℕ
-    n = slice_index row 0
-
-    size : ℕ
-    size = size_of (drop (1 + n) row)
-
-    first : Entry
-    first = record { path = take n (drop 1 row); content = take size (drop (5 + n) row); rest = drop (5 + n + size) row }
-
-    small : size < 2147483648 → length e.content ≡ min size (length (drop (5 + n) row)) → length e.content ≤ 2147483647
-    small low long = omega arith
-
-    clash : ◌≡◌ {A = ℕ} 0 1 → length e.content ≤ 2147483647
-    clash z = omega arith
-
-onward_bounded : (wanted : List ℕ) (later : List ℕ → List Entry) (found : Option Entry) → ((e : Entry) → found ≡ Some e → length e.content ≤ 2147483647)
-    → ((rest : List ℕ) → Bounded (first_of wanted (later rest))) → Bounded (first_of wanted (onward [] (λ e es. e ∷ es) later found))
-onward_bounded wanted later None low lows = tt
-onward_bounded wanted later (Some e) low lows =
-    cond_both (bytes_eq e.path wanted) (Some e.content) (first_of wanted (later e.rest)) Bounded (λ _. low e refl) (λ _. lows e.rest)
-
-walk_bounded : (wanted : List ℕ) (n : ℕ) (row : List ℕ) → Bounded (first_of wanted (walk [] [] (λ e es. e ∷ es) n row))
-unfolding walk
-walk_bounded wanted zero [] = tt
-walk_bounded wanted (suc n) [] = tt
-walk_bounded wanted zero (x ∷ xs) = tt
-walk_bounded wanted (suc n) (x ∷ xs) =
-    onward_bounded wanted (walk [] [] (λ e es. e ∷ es) n) (entry_of (x ∷ xs)) (entry_small (x ∷ xs)) (walk_bounded wanted n)
-
-pub shelf_bounded : (row wanted : List ℕ) → Bounded (shelf_named row wanted)
-shelf_bounded row wanted = walk_bounded wanted (length row) row
-
--- A test of two paths answers what the definition does.
-pub tested : (xs ys : List ℕ) (r : Bool) → Decides r (xs ≡ ys) → bytes_eq xs ys ≡ r
-tested xs ys r h = sym (search (rules, bytes_eq-Decides))

@@ -1,15 +1,15 @@
 -- What a slice finds in the site below, and what it writes of it.
-use Rattle.std.specs.Prelude.{◌≡◌, ℕ, ◌+◌, ◌-◌, ◌<◌, ◌≤◌, min, List, [], ◌++◌, length, take, drop, Some, None, Option, nat_lt, refl}
+use Rattle.std.specs.Prelude.{◌≡◌, ℕ, ◌+◌, ◌-◌, ◌<◌, ◌≤◌, min, List, ◌++◌, length, take, drop, Some, None, Option}
 use Rattle.std.proofs.Common.{sym, ap, ◌∙◌, append_assoc, ⊎_elim, arith, length-take, length-drop}
 use borrow.Rule.Slice.PartMut.{post_of}
 use Rattle.std.proofs.lemmas.List.{take_all, take-append-drop, drop_all, drop-append-le}
-use Rattle.std.proofs.lemmas.Bool.{cases_lt, cond_both}
+use Rattle.std.proofs.lemmas.Bool.{cases_lt}
 use Rattle.site.specs.declared.span.Span.{Span}
 use Rattle.site.specs.Sites.{Bounded, Filled, at_place, count_of, octets_of}
-use Rattle.slices.specs.Slices.{Asked, whole, part, unnamed, asked_of, cut_out, named_by, slice_named}
+use Rattle.slices.specs.Slices.{whole, asked_of, named_by, slice_named}
 use Rattle.site.specs.Spans.{Finds, within}
-use Rattle.site.specs.Found.{at_place_lem}
-use Rattle.site.proofs.Parting.{part_part, within_short}
+use Rattle.site.proofs.Found.{at_place_lem}
+use Rattle.site.proofs.Parting.{part_part}
 
 -- All that was counted is all that was found.
 whole_found : (found : Option (List ℕ)) (held : List ℕ) (count : ℕ) → Some count ≡ count_of found → held ≡ octets_of found
@@ -43,20 +43,6 @@ whole_finds below path held place count low asks small is holds =
 
     all : (Some (take count held) ≡ below path) × (length (take count held) ≡ count)
     all = whole_found (below path) held count counted (holds ∙ ap octets_of here)
-
--- A part of what is bounded is bounded.
-cut_bounded : (a b : ℕ) (found : Option (List ℕ)) → Bounded found → Bounded (cut_out a b found)
-cut_bounded a b None low = tt
-cut_bounded a b (Some octets) low =
-    cond_both (nat_lt a (length octets)) (Some (take (b + 1 - a) (drop a octets))) None Bounded (λ _. simp (length-take, length-drop) (omega arith)) (λ _. tt)
-
-by_bounded : (below : List ℕ → Option (List ℕ)) (path : List ℕ) → ((p : List ℕ) → Bounded (below p)) → (asked : Asked) → Bounded (named_by below path asked)
-by_bounded below path low whole = low path
-by_bounded below path low (part p a b) = cut_bounded a b (below p) (low p)
-by_bounded below path low unnamed = tt
-
-pub slice_bounded : (below : List ℕ → Option (List ℕ)) (path : List ℕ) → ((p : List ℕ) → Bounded (below p)) → Bounded (slice_named below path)
-slice_bounded below path low = by_bounded below path low (asked_of path)
 
 front_rest : (r m : ℕ) (before : List ℕ) → r ≤ m → m ≤ length before → drop r (take m before) ++ drop m before ≡ drop r before
 front_rest r m before low fits =

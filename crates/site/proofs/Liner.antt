@@ -1,29 +1,17 @@
 -- The octets of the line, one by one and in parts.
-use Rattle.std.specs.Prelude.{◌≡◌, ℕ, ◌+◌, ◌-◌, ◌%◌, ◌<◌, ◌≤◌, min, List, [], ◌++◌, map, length, take, drop, Some, None, codes, Option, nat_le, slice_index, refl}
+use Rattle.std.specs.Prelude.{◌≡◌, ℕ, ◌+◌, ◌-◌, ◌%◌, ◌<◌, ◌≤◌, min, List, ◌++◌, length, take, drop, slice_index, refl}
 use Rattle.std.proofs.Common.{sym, ap, ◌∙◌, arith, length-take, length-drop}
 use borrow.Rule.Slice.PartMut.{post_of}
-use Rattle.std.specs.List.{range_with_len}
-use Rattle.std.proofs.lemmas.List.FromFn.{length-map-range_with_len, get_or-map-range_with_len}
+use Rattle.std.proofs.lemmas.List.FromFn.{get_or-map-range_with_len}
 use Rattle.std.proofs.lemmas.List.{ext_get_or, get_or-take, get_or-drop}
-use Rattle.std.proofs.lemmas.Bool.{cond_both, leb-true}
-use Rattle.std.specs.Option.{option_map}
-use Rattle.std.specs.Str.{bytes_eq}
 use Rattle.site.specs.declared.span.Span.{Span}
-use Rattle.site.specs.Lines.{line_from, line_of, at_most_million, line_named}
-use Rattle.site.specs.Sites.{Bounded, Filled}
-use Rattle.site.specs.Texts.{number_of}
-
-pub length_line : (o n : ℕ) → length (line_from o n) ≡ n
-unfolding line_from
-length_line o n = length-map-range_with_len (λ k. k % 251) o n
+use Rattle.site.specs.Laws.{length_line}
+use Rattle.site.specs.Lines.{line_from, line_of}
+use Rattle.site.specs.Sites.{Filled}
 
 pub line_at : (o n k : ℕ) → k < n → slice_index (line_from o n) k ≡ (o + k) % 251
 unfolding line_from
 line_at o n k low = get_or-map-range_with_len (λ k. k % 251) o n k (o + k) 0 low refl
-
-pub line_none : (o : ℕ) → line_from o 0 ≡ []
-unfolding line_from
-line_none o = refl
 
 -- Octets that count up from the offset are a part of the line.
 pub line_is : (o : ℕ) (xs : List ℕ) → ((k : ℕ) → k < length xs → slice_index xs k ≡ (o + k) % 251) → xs ≡ line_from o (length xs)
@@ -40,17 +28,6 @@ line_part o n r inside =
   where
     long : length (take r (drop o (line_from 0 n))) ≡ r
     long = simp (length-take, length-drop, length_line) (omega arith)
-
--- No line is longer than a million octets.
-mapped_bounded : (found : Option ℕ) → Bounded (option_map (line_from 0) (at_most_million found))
-mapped_bounded None = tt
-mapped_bounded (Some n) =
-    cond_both (nat_le n 1000000) (Some n) None (λ o. Bounded (option_map (line_from 0) o)) (λ low. omega (arith, leb-true n 1000000 low, length_line 0 n)) (λ _. tt)
-
-pub line_bounded : (path : List ℕ) → Bounded (line_named path)
-line_bounded path =
-    cond_both (bytes_eq (take 6 path) (codes "/line/")) (at_most_million (number_of (drop 6 path))) None (λ o. Bounded (option_map (line_from 0) o))
-    (λ _. mapped_bounded (number_of (drop 6 path))) (λ _. tt)
 
 -- A buffer whose front was written with the line from the offset on.
 pub fills_line : (found span : Span) (offset n : ℕ) (before written : List ℕ)
