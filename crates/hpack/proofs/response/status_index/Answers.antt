@@ -7,13 +7,13 @@ use Rattle.hpack.proofs.response.status_index.Goals as goal
 pub loop-index-init : goal.loop-index-init
 loop-index-init c = only_there c.args.digits.now
 
-pub returns-then-is-entry : goal.returns-then-is-entry
-returns-then-is-entry c =
+pub returns-then-is_entry : goal.returns-then-is_entry
+returns-then-is_entry c =
     let i : ℕ = c.loop-index.index in
     let f : Field = (codes ":status", c.args.digits.now) in
     let n : suc (14 - i) ≡ 15 - i = omega arith in
     record {
-      value = sym (found_here (14 - i) i f (sym c.if-is-entry.ensures)) ∙ ap (λ k. index_from k i f) n ∙ c.loop-index.invariant;
+      value = sym (found_here (14 - i) i f (sym c.if-is_entry.ensures)) ∙ ap (λ k. index_from k i f) n ∙ c.loop-index.invariant;
       bound = omega arith;
     }
 
@@ -23,7 +23,7 @@ loop-index-preserved c =
     let f : Field = (codes ":status", c.args.digits.now) in
     let m : 15 - (i + 1) ≡ 14 - i = omega arith in
     let n : suc (14 - i) ≡ 15 - i = omega arith in
-    ap (λ k. index_from k (i + 1) f) m ∙ sym (not_here (14 - i) i f (sym c.if-is-entry.ensures)) ∙ ap (λ k. index_from k i f) n ∙ c.loop-index.invariant
+    ap (λ k. index_from k (i + 1) f) m ∙ sym (not_here (14 - i) i f (sym c.if-is_entry.ensures)) ∙ ap (λ k. index_from k i f) n ∙ c.loop-index.invariant
 
 pub returns : goal.returns
 returns c =
