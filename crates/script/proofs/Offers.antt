@@ -1,7 +1,7 @@
 -- Offers that are set one by one.
-use Rattle.std.proofs.Common.{ℕ, zero, suc, List, [], ◌∷◌, get_or, set}
+use Rattle.std.proofs.Common.{ℕ, zero, suc, List, [], ◌∷◌, set}
 use Rattle.script.specs.declared.offer.Offered.{Offered}
-use Rattle.script.specs.Lines.{nothing, OfferRange, OffersRange}
+use Rattle.script.specs.Lines.{OfferRange, OffersRange}
 
 -- an offer in its range leaves all in their ranges
 pub set_range : (offers : List Offered) (i : ℕ) (o : Offered) → OffersRange offers → OfferRange o → OffersRange (set offers i o)

@@ -1,8 +1,6 @@
 -- The words that a line may begin with, by their spelling.
 use Rattle.std.specs.Prelude.{ℕ, List, codes}
-use Rattle.script.specs.declared.word.CallWord.{CallWord}
 use Rattle.script.specs.declared.word.CallWord.TheVariants.{Greet, Take, Send, Claim, Answer, Shut, Offers, Pick, Fetch, Block}
-use Rattle.script.specs.declared.word.SettingWord.{SettingWord}
 use Rattle.script.specs.declared.word.SettingWord.TheVariants.{Scheduler, Site, Book, Show}
 use Rattle.script.specs.declared.word.Word.{Word}
 use Rattle.script.specs.declared.word.Word.TheVariants as word

@@ -1,4 +1,4 @@
-use Rattle.std.proofs.Common.{◌≡◌, ℕ, List, Option, subst, rules}
+use Rattle.std.proofs.Common.{ℕ, List, Option, subst, rules}
 use Rattle.script.specs.Decoded.{Decodes}
 use Rattle.script.proofs.Pairs.{digits}
 use Rattle.script.proofs.hex.octets.Goals as goal
