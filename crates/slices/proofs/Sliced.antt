@@ -8,7 +8,7 @@ use Rattle.site.specs.declared.span.Span.{Span}
 use Rattle.site.specs.Sites.{Bounded, Filled, at_place, count_of, octets_of}
 use Rattle.slices.specs.Slices.{whole, asked_of, named_by, slice_named}
 use Rattle.site.specs.Spans.{Finds, within}
-use Rattle.site.proofs.Found.{at_place_lem}
+use Rattle.site.proofs.Found.{at_place_inside}
 use Rattle.site.proofs.Parting.{part_part}
 
 -- All that was counted is all that was found.
@@ -36,7 +36,7 @@ whole_finds below path held place count low asks small is holds =
     (all.0 ∙ ap (named_by below path) asks, (all.1, count_low (below path) count counted small))
   where
     here : at_place place (below path) ≡ below path
-    here = at_place_lem place (below path) low
+    here = at_place_inside place (below path) low
 
     counted : Some count ≡ count_of (below path)
     counted = is ∙ ap count_of here
