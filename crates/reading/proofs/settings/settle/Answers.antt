@@ -1,5 +1,4 @@
-use Rattle.std.proofs.Common.{◌≡◌, List, [], ◌∷◌, ap, ◌∙◌, rules}
-use Rattle.frames.specs.declared.settings.Setting.{Setting}
+use Rattle.std.proofs.Common.{ap, ◌∙◌}
 use Rattle.frames.specs.Settings.{pairs, pairs_in}
 use Rattle.frames.specs.View.{pair_view}
 use Rattle.reading.proofs.Settling.{step, stop, over}

@@ -1,4 +1,4 @@
-use Rattle.std.proofs.Common.{◌≡◌, Bool, true, false, get_or, None, sym, ◌∙◌, rules}
+use Rattle.std.proofs.Common.{◌≡◌, true, false, get_or, None, sym, ◌∙◌, rules}
 use Rattle.state.specs.Places.{slot_overflows}
 use Rattle.state.proofs.First.{any_hit, any_miss, any_over}
 use Rattle.state.proofs.search.any_overflows.Goals as goal

@@ -1,4 +1,4 @@
-use Rattle.std.proofs.Common.{◌≡◌, Bool, true, false, get_or, None, sym, ◌∙◌, rules}
+use Rattle.std.proofs.Common.{◌≡◌, true, false, get_or, None, sym, ◌∙◌, rules}
 use Rattle.state.specs.Places.{is_free}
 use Rattle.state.proofs.First.{hit, miss, over}
 use Rattle.state.proofs.search.lowest_free.Goals as goal
