@@ -1,5 +1,5 @@
 -- One turn of the loop over the pairs of SETTINGS.
-use Rattle.std.proofs.Common.{◌≡◌, List, [], ◌∷◌, Some, None, Ok, Err, Option, Result, sym, refl, ap, ◌∙◌}
+use Rattle.std.proofs.Common.{◌≡◌, List, [], ◌∷◌, Ok, Err, Option, Result, sym, refl, ap, ◌∙◌}
 use Rattle.frames.specs.declared.fault.Fault.{Fault}
 use Rattle.frames.specs.declared.settings.Setting.{Setting}
 use Rattle.state.specs.declared.place.Place.{Place}

@@ -1,5 +1,5 @@
 -- Field blocks: HEADERS and CONTINUATION.
-use Rattle.std.specs.Prelude.{ℕ, ◌+◌, min, Bool, true, false, cond, List, [], length, take, replicate, Some, None, Ok, Err, Option, Result, nat_le, nat_lt}
+use Rattle.std.specs.Prelude.{ℕ, ◌+◌, min, Bool, cond, List, [], length, take, replicate, Some, None, Ok, Err, Option, Result, nat_le, nat_lt}
 use Rattle.std.proofs.Math.Seq.{paste}
 use Rattle.frames.specs.declared.code.ErrorCode.TheVariants.{ProtocolError, RefusedStream, CompressionError, EnhanceYourCalm}
 use Rattle.tables.specs.DynamicTable.{Dynamic}

@@ -1,7 +1,6 @@
 -- What comes for a stream meets the state of the stream's place.
-use Rattle.std.specs.Prelude.{ℕ, ◌+◌, ◌-◌, Bool, true, false, cond, not, ◌&&◌, List, length, Some, None, Option, ◌==◌, nat_lt}
+use Rattle.std.specs.Prelude.{ℕ, ◌+◌, ◌-◌, Bool, true, false, cond, List, length, Some, None, Option, ◌==◌, nat_lt}
 use Rattle.std.proofs.Math.Seq.{paste}
-use Rattle.frames.specs.declared.code.ErrorCode.{ErrorCode}
 use Rattle.frames.specs.declared.code.ErrorCode.TheVariants.{ProtocolError, FlowControlError, StreamClosed, EnhanceYourCalm}
 use Rattle.state.specs.declared.place.Place.{Place}
 use Rattle.state.specs.declared.place.Request.{Request}

@@ -1,5 +1,5 @@
 -- A text laid over a row, as one front and what is left of the row.
-use Rattle.std.proofs.Common.{◌≡◌, ℕ, ◌-◌, ◌≤◌, min, List, [], ◌∷◌, ◌++◌, length, take, drop, sym, refl, ap, ◌∙◌, inl, inr, zero-le, arith}
+use Rattle.std.proofs.Common.{◌≡◌, ℕ, ◌-◌, min, List, ◌++◌, length, take, drop, sym, ◌∙◌, inl, inr, zero-le, arith}
 use borrow.Rule.Slice.PartMut.{post_of, Post-is}
 use Rattle.std.proofs.lemmas.List.{take_all, drop_all}
 use Rattle.std.proofs.lemmas.Bool.{cases_lt}

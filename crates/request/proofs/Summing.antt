@@ -12,7 +12,7 @@ use Rattle.request.specs.declared.summary.Summary.{Summary}
 use Rattle.request.specs.Kinds.{kind_of, is_plain, is_colon, same_kind}
 use Rattle.request.specs.Methods.{method_of}
 use Rattle.request.specs.Paths.{path_of}
-use Rattle.request.specs.Requests.{breach_behind, breach_of, earlier, has_plain, heard_of, heard_or, is_there, kind_breach, mapped, name_breach, value_of}
+use Rattle.request.specs.Requests.{breach_behind, breach_of, earlier, has_plain, heard_or, is_there, kind_breach, mapped, name_breach, value_of}
 use Rattle.request.specs.Summaries.{came_in, concluded, summary_of, summed}
 use Rattle.request.specs.Texts.{has_upper}
 use Rattle.request.proofs.Pushes.{value-push, any_push, priority-push, breach-push}

@@ -1,5 +1,5 @@
 -- What a field is by its name: one of the four that a request may have with a colon, another name with a colon, or a plain name.
-use Rattle.std.specs.Prelude.{ℕ, Bool, true, false, cond, not, List, [], codes, ◌==◌}
+use Rattle.std.specs.Prelude.{ℕ, Bool, true, false, cond, not, List, codes, ◌==◌}
 use Rattle.std.specs.Str.{bytes_eq}
 use Rattle.request.specs.declared.kind.Kind.{Kind}
 use Rattle.request.specs.declared.kind.Kind.TheVariants.{Method, Scheme, Path, Authority, OtherColon, Priority, OtherPlain}

@@ -1,5 +1,5 @@
 -- One pick more in a tally.
-use Rattle.std.proofs.Common.{◌≡◌, ℕ, ◌+◌, ◌-◌, ◌≤◌, max, Bool, true, false, cond, eqb, List, [], ◌∷◌, length, sym, refl, ap, ◌∙◌, add_assoc, arith}
+use Rattle.std.proofs.Common.{◌≡◌, ℕ, ◌+◌, ◌≤◌, max, Bool, true, false, cond, eqb, List, [], ◌∷◌, length, sym, refl, ap, ◌∙◌, add_assoc, arith}
 use mir.Val.{bool_byte}
 use Rattle.scheduler.specs.declared.pick.Pick.{Pick}
 use Rattle.rig.specs.Tally.{frames_of, lead_after, most_from}

@@ -1,5 +1,5 @@
 -- One turn of a search over a list.
-use Rattle.std.proofs.Common.{◌≡◌, ℕ, ◌+◌, ◌<◌, ◌≤◌, Bool, true, false, cond, List, [], ◌∷◌, length, get_or, drop, Some, None, Option, refl, ◌∙◌}
+use Rattle.std.proofs.Common.{◌≡◌, ℕ, ◌+◌, ◌<◌, ◌≤◌, Bool, true, false, cond, List, length, get_or, drop, Some, None, ◌∙◌}
 use Rattle.std.proofs.lemmas.List.{at_drop_more, at_drop_all}
 use Rattle.std.proofs.lemmas.Bool.{cond-true, cond-false}
 use Rattle.state.specs.Places.{first_from, any}
@@ -19,11 +19,11 @@ module _ {X : Type 0} (test : X → Bool) (d : X) (xs : List X) (i : ℕ) (h : i
   unfolding any
   again = at_drop_more (λ qs. any test qs) xs i d h
 
-  pub any-hit : test (get_or xs i d) ≡ true → any test (drop i xs) ≡ true
-  any-hit e = again ∙ cond-true _ _ _ e
+  pub any_hit : test (get_or xs i d) ≡ true → any test (drop i xs) ≡ true
+  any_hit e = again ∙ cond-true _ _ _ e
 
-  pub any-miss : test (get_or xs i d) ≡ false → any test (drop i xs) ≡ any test (drop (i + 1) xs)
-  any-miss e = again ∙ cond-false _ _ _ e
+  pub any_miss : test (get_or xs i d) ≡ false → any test (drop i xs) ≡ any test (drop (i + 1) xs)
+  any_miss e = again ∙ cond-false _ _ _ e
 
 pub over : {X : Type 0} (test : X → Bool) (xs : List X) (i : ℕ) → length xs ≤ i → first_from test i (drop i xs) ≡ None
 unfolding first_from

@@ -2,7 +2,6 @@
 use Rattle.std.specs.Prelude.{ℕ, Bool, List, Option}
 use Rattle.frames.specs.declared.code.ErrorCode.{ErrorCode}
 use Rattle.state.specs.declared.place.Place.{Place}
-use Rattle.state.specs.declared.place.Request.{Request}
 use Rattle.state.specs.declared.place.Stage.{Stage}
 use Rattle.state.specs.declared.queue.Queue.{Queue}
 use Rattle.state.specs.declared.streams.OpenBlock.{OpenBlock}

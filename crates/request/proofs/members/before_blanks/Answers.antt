@@ -1,4 +1,4 @@
-use Rattle.std.proofs.Common.{◌≡◌, ℕ, ◌+◌, List, length, take, sym, ap, arith}
+use Rattle.std.proofs.Common.{ℕ, ◌+◌, List, length, sym, ap, arith}
 use Rattle.std.proofs.lemmas.List.{take_all}
 use Rattle.std.proofs.lemmas.List.Sums.{suffix_len-take_yes, suffix_len-take_no}
 use Rattle.std.specs.List.{suffix_len}
@@ -11,10 +11,10 @@ loop-n-init c =
 
 pub loop-n-preserved : goal.loop-n-preserved
 loop-n-preserved c =
-    let e = suffix_len-take_yes is_blank c.args.member.now c.loop-n.n 0 c.loop-n-test.true c.loop-n.invariant.0 (sym c.if-is-blank.ensures) in
+    let e = suffix_len-take_yes is_blank c.args.member.now c.loop-n.n 0 c.loop-n-test.true c.loop-n.invariant.0 (sym c.if-is_blank.ensures) in
     (omega arith, omega arith)
 
-pub returns-else-is-blank : goal.returns-else-is-blank
-returns-else-is-blank c =
-    let e = suffix_len-take_no is_blank c.args.member.now c.loop-n.n 0 c.loop-n-test.true c.loop-n.invariant.0 (sym c.if-is-blank.ensures) in
+pub returns-else-is_blank : goal.returns-else-is_blank
+returns-else-is_blank c =
+    let e = suffix_len-take_no is_blank c.args.member.now c.loop-n.n 0 c.loop-n-test.true c.loop-n.invariant.0 (sym c.if-is_blank.ensures) in
     record { value = omega arith; bound = c.loop-n.invariant.0 }

@@ -1,10 +1,10 @@
-use Rattle.std.proofs.Common.{◌≡◌, Bool, true, false, get_or, None, sym, ◌∙◌, rules}
+use Rattle.std.proofs.Common.{◌≡◌, true, false, get_or, None, sym, ◌∙◌, rules}
 use Rattle.state.specs.Places.{has}
 use Rattle.state.proofs.First.{hit, miss, over}
 use Rattle.state.proofs.search.place_of.Goals as goal
 
-pub returns-then-has-stream : goal.returns-then-has-stream
-returns-then-has-stream c =
+pub returns-then-has_stream : goal.returns-then-has_stream
+returns-then-has_stream c =
     let e : has (get_or c.args.places.now c.loop-k.k None) c.args.stream ≡ true = cc in
     record { value = sym (hit (λ slot. has slot c.args.stream) None c.args.places.now c.loop-k.k (search rules) e) ∙ c.loop-k.invariant; bound = search rules }
 
