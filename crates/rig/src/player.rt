@@ -11,7 +11,7 @@ use frames::header::Header;
 use hpack::decode::decode;
 use policies::policy::Policy;
 use scheduler::drr::Drr;
-use scheduler::meaning::{Scheduler as _, Scheduler as _};
+use scheduler::meaning::Scheduler as _;
 use scheduler::pick::Pick;
 use scheduler::urgency::Urgency;
 use script::hex::octets;

@@ -6,3 +6,4 @@ pub mod Urgencies
 pub mod Chosen
 pub mod Debts
 pub mod Runs
+pub mod Laws

@@ -4,8 +4,8 @@ ghost use Rattle.scheduler.specs.Fair.{Fair};
 ghost use Rattle.scheduler.specs.Offers.{charge_of, largest};
 ghost use Rattle.scheduler.specs.Rounds.{quiet_below, following, walk as walk_over, covers, leaves, drr_pick, standing};
 ghost use Rattle.scheduler.specs.Turns.{Reached};
-ghost use Rattle.scheduler.specs.Debts.{drr_lag, drr_debt, Arrived, ahead};
-ghost use borrow.Author.Rules.{rules};
+ghost use Rattle.scheduler.specs.Debts.{drr_lag, drr_debt, Arrived};
+ghost use Rattle.scheduler.specs.Laws.{drr_debt_bounded};
 
 use super::meaning::Scheduler;
 use super::offer::{Offer, Row};
@@ -110,7 +110,7 @@ impl Scheduler for Drr {
 
     ghost debt = { λ s. drr_debt s.balances s.current };
 
-    ghost bounded = { unfold ahead in Prim.search rules };
+    ghost bounded = { λ s i j _ _. drr_debt_bounded s.balances s.current i j s.low s.here };
 
     fn lag(&self) -> u64
         ensures { result ≡ drr_lag }

@@ -4,7 +4,7 @@ ghost use Rattle.scheduler.specs.Fair.{Fair};
 ghost use Rattle.scheduler.specs.Urgencies.{lesser as lesser_of, least_lead, better, eligible, lessened, beats, best, urgency_pick};
 ghost use Rattle.scheduler.specs.Debts.{most_lead, urgency_lag, urgency_debt};
 ghost use Rattle.scheduler.specs.Chosen.{LeastIs, ChosenIs, Foremost};
-ghost use Rattle.std.proofs.Common.{rules};
+ghost use Rattle.scheduler.specs.Laws.{urgency_debt_bounded};
 
 use super::meaning::Scheduler;
 use super::offer::{Offer, Row};
@@ -130,7 +130,7 @@ impl Scheduler for Urgency {
 
     ghost debt = { λ s. urgency_debt s.leads };
 
-    ghost bounded = { Prim.search rules };
+    ghost bounded = { λ s i j _ _. urgency_debt_bounded s.leads i j s.low };
 
     fn lag(&self) -> u64
         ensures { result ≡ urgency_lag }

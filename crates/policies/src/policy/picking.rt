@@ -2,9 +2,7 @@
 ghost use Rattle.std.specs.Prelude.{◌≡◌};
 ghost use Rattle.scheduler.specs.Fair.{Fair};
 ghost use Rattle.policies.specs.Policies.{policy_lag, policy_debt, Stepped};
-ghost use borrow.Author.Rules.{rules};
-ghost use Rattle.scheduler.specs.Debts.{ahead};
-ghost use Rattle.policies.specs.declared.policy.Policy.TheVariants.{RoundRobin, Leashed};
+ghost use Rattle.policies.specs.Laws.{policy_debt_bounded};
 
 use super::Policy;
 use scheduler::meaning::Scheduler;
@@ -15,7 +13,7 @@ impl Scheduler for Policy {
 
     ghost debt = { policy_debt };
 
-    ghost bounded = { unfold ahead in elim [ RoundRobin d ↦ Prim.search rules | Leashed u ↦ Prim.search rules ] };
+    ghost bounded = { λ p i j _ _. policy_debt_bounded p i j };
 
     fn lag(&self) -> u64
         ensures { result ≡ policy_lag self.now }
