@@ -10,6 +10,7 @@ mod words;
 
 use anyhow::anyhow;
 use player::{Player, play};
+use std::process::ExitCode;
 use std::{env, fs, io};
 
 // The script: the file that the first argument names, else standard input.
@@ -39,10 +40,13 @@ fn run(rt: &HostRuntime) -> anyhow::Result<()> {
     Ok(())
 }
 
-fn main(rt: HostRuntime) -> anyhow::Result<()> {
-    let played = run(&rt);
-    if let Err(error) = &played {
-        eprintln!(rt; "rig: {error}")?;
+// An error is told on standard error, and the status is then 1.
+fn main(rt: HostRuntime) -> io::Result<ExitCode> {
+    match run(&rt) {
+        Ok(()) => Ok(ExitCode::SUCCESS),
+        Err(error) => {
+            eprintln!(rt; "rig: {error}")?;
+            Ok(ExitCode::FAILURE)
+        }
     }
-    played
 }
