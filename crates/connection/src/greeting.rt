@@ -1,6 +1,6 @@
 // The client's greeting, before which no frame can be taken.
 ghost use Rattle.std.specs.Prelude.{◌≡◌};
-ghost use Rattle.connection.specs.Greeting.{greeted, is_preface};
+ghost use Rattle.connection.specs.Greeting.{greeted};
 
 use state::refusal::Refusal;
 
@@ -13,12 +13,6 @@ pub struct Greeted {
     mark: (),
 }
 
-fn is_preface(octets: &[u8]) -> bool
-    ensures { result ≡ is_preface octets.now }
-{
-    octets == PREFACE
-}
-
 // Are exactly 24 octets given, and are they the preface?
 pub fn greet(octets: &[u8]) -> Result<Greeted, Refusal>
     ensures { result ≡ greeted octets.now }
@@ -26,7 +20,7 @@ pub fn greet(octets: &[u8]) -> Result<Greeted, Refusal>
     if octets.len() != 24 {
         return Err(Refusal::GreetingLength);
     }
-    if !is_preface(octets) {
+    if octets != PREFACE {
         return Err(Refusal::Greeting);
     }
     Ok(Greeted { mark: () })

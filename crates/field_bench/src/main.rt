@@ -5,8 +5,8 @@
 
 mod tally;
 
-use anyhow::anyhow;
-use std::env;
+use anyhow::Context;
+use std::{env, io};
 use tables::table::Table;
 use tally::{Tally, repeat};
 
@@ -18,36 +18,31 @@ const INDEXED: &[u8; 8] = b"\x82\x86\x84\x90\xbe\xbf\xbe\xbf";
 
 const WORST: [u8; 4096] = [0xbe; 4096];
 
+// Decodes a block so many times, and tells what came of it.
+fn tell(
+    rt: &HostRuntime,
+    name: &str,
+    table: &mut Table,
+    block: &[u8],
+    turns: usize,
+) -> io::Result<()> {
+    let mut tally = Tally::default();
+    repeat(table, block, turns, &mut tally);
+    println!(rt; "{name}: {turns} blocks, {tally}")
+}
+
 fn main(rt: HostRuntime) -> anyhow::Result<()> {
-    let mut words = env::args(&rt)?;
-    let _ = words.next();
+    let mut words = env::args(&rt)?.skip(1);
     let mut counts = [0usize; 3];
     for count in counts.iter_mut() {
-        let Some(word) = words.next() else {
-            return Err(anyhow!("three numbers of blocks are needed"));
-        };
+        let word = words.next().context("three numbers of blocks are needed")?;
         *count = word.parse::<usize>()?;
     }
     let [mixed, indexed, worst] = counts;
     let mut table = Table::new();
-    let mut tally = Tally {
-        fields: 0,
-        octets: 0,
-    };
-    repeat(&mut table, MIXED, mixed, &mut tally);
-    println!(rt; "mixed: {mixed} blocks, {tally}")?;
-    let mut tally = Tally {
-        fields: 0,
-        octets: 0,
-    };
-    repeat(&mut table, INDEXED, indexed, &mut tally);
-    println!(rt; "indexed: {indexed} blocks, {tally}")?;
+    tell(&rt, "mixed", &mut table, MIXED, mixed)?;
+    tell(&rt, "indexed", &mut table, INDEXED, indexed)?;
     table.insert(b"x", &[b'v'; 4063]);
-    let mut tally = Tally {
-        fields: 0,
-        octets: 0,
-    };
-    repeat(&mut table, &WORST, worst, &mut tally);
-    println!(rt; "worst: {worst} blocks, {tally}")?;
+    tell(&rt, "worst", &mut table, &WORST, worst)?;
     Ok(())
 }

@@ -1,13 +1,12 @@
 // What the benchmark makes of the fields: their number, and the octets of their names and values.
 ghost use Rattle.std.specs.Prelude.{◌≡◌};
 ghost use Rattle.field_bench.specs.Tallies.{tallied, repeated};
-ghost use Rattle.tables.specs.Tables.{table_of};
 
 use hpack::decode::{Fold, decode};
 use std::fmt;
 use tables::table::Table;
 
-#[derive(Clone, Copy)]
+#[derive(Clone, Copy, Default)]
 pub struct Tally {
     pub fields: usize,
     pub octets: usize,
@@ -37,7 +36,7 @@ impl fmt::Display for Tally {
 
 // Decodes one block again and again with one table. A fault would show as fields that are not counted.
 pub fn repeat(table: &mut Table, block: &[u8], turns: usize, tally: &mut Tally)
-    ensures { (table_of table.new, tally.new) ≡ repeated turns block.now (table_of table.old, tally.old) }
+    ensures { (table.new, tally.new) ≡ repeated turns block.now (table.old, tally.old) }
 {
     for _ in 0..turns {
         let _ = decode(table, block, tally);

@@ -10,14 +10,7 @@ use std::alloc::Global;
 pub fn integer_of(bits: u8, octets: &[u8]) -> Option<(u32, usize)>
     ensures { 4 ≤ bits → bits ≤ 8 → result ≡ integer_of bits octets.now }
 {
-    match bits {
-        4 => read_integer(Prefix::Four, octets),
-        5 => read_integer(Prefix::Five, octets),
-        6 => read_integer(Prefix::Six, octets),
-        7 => read_integer(Prefix::Seven, octets),
-        8 => read_integer(Prefix::Eight, octets),
-        _ => None,
-    }
+    read_integer(Prefix::try_from(bits).ok()?, octets)
 }
 
 fn digit(c: u8) -> anyhow::Result<u8>
@@ -30,19 +23,18 @@ fn digit(c: u8) -> anyhow::Result<u8>
     }
 }
 
-// The octets that a text spells, two digits to an octet.
+// The octets that a text spells, two digits to an octet. (The kit's crate hex takes capitals too, which are refused
+// here.)
 pub fn octets_of(heap: Global, hex: &str) -> anyhow::Result<Vec<u8>>
     ensures { IfOk result (λ v. 2 * vec_len v ≡ length hex.now) }
 {
-    let digits = hex.as_bytes();
-    if digits.len() % 2 != 0 {
+    let (pairs, odd) = hex.as_bytes().as_chunks::<2>();
+    if !odd.is_empty() {
         return Err(anyhow!("an octet has two digits"));
     }
     let mut octets = Vec::new(heap);
-    for i in 0..digits.len() / 2 {
-        let high = digit(digits[2 * i])?;
-        let low = digit(digits[2 * i + 1])?;
-        octets.push(high * 16 + low)?;
+    for [high, low] in pairs {
+        octets.push(digit(*high)? * 16 + digit(*low)?)?;
     }
     Ok(octets)
 }

@@ -6,7 +6,7 @@ use std::cell::Cell;
 use std::fmt;
 use tables::table::Table;
 
-// Octets, each as the character of its number.
+// Octets, each as the character of its number: the rig prints what is no printable ASCII character as `\xNN` instead.
 #[derive(Clone, Copy)]
 pub struct Text<'a>(pub &'a [u8]);
 
@@ -20,7 +20,8 @@ impl<'a> fmt::Display for Text<'a> {
     }
 }
 
-// Prints each field of a block as it is handed on. A field has no answer to give back, so a print that fails is kept in mind.
+// Prints each field of a block as it is handed on, in the RFC's words and not in the rig's. A field has no answer to
+// give back, so a print that fails is kept in mind.
 #[derive(Drop)]
 pub struct Printer<'a> {
     pub rt: &'a HostRuntime,
@@ -61,11 +62,8 @@ pub struct ShownTable<'a>(pub &'a Table);
 
 impl<'a> fmt::Display for ShownTable<'a> {
     fn fmt<W: fmt::Write>(&self, f: &mut fmt::Formatter<W>) -> fmt::Result {
-        for place in 0..128usize {
-            let Some((name, value)) = self.0.entry(place) else {
-                break;
-            };
-            let index = place + 1;
+        for (place, (name, value)) in self.0.entries().enumerate() {
+            let index = place.wrapping_add(1);
             let cost = name.len().wrapping_add(value.len()).wrapping_add(32);
             let name = Text(name);
             let value = Text(value);

@@ -1,5 +1,6 @@
 -- The numbers of frame types and flag bits.
-use Rattle.std.specs.Prelude.{ℕ, Bool, cond, not, ◌==◌, bit_and}
+use Rattle.std.specs.Prelude.{ℕ, Bool, cond, not, ◌==◌, bit_and, bit_or}
+use Rattle.frame_header.specs.declared.flags.Flags.{Flags}
 use Rattle.frame_header.specs.declared.header.Kind.{Kind}
 use Rattle.frame_header.specs.declared.header.Kind.TheVariants.{Data, Headers, Priority, RstStream, Settings, PushPromise, Ping, GoAway, WindowUpdate, Continuation, Unknown}
 
@@ -35,3 +36,7 @@ kind_of n =
 -- whether a flag is set: END_STREAM and ACK are bit 1, END_HEADERS 4, PADDED 8, PRIORITY 32
 abbrev pub flag : ℕ → ℕ → Bool
 flag bits bit = not (bit_and bits bit == 0)
+
+-- the flags of both
+abbrev pub both_flags : Flags → Flags → Flags
+both_flags a b = record { bits = bit_or a.bits b.bits }

@@ -1,5 +1,5 @@
 -- Numbers as octets, the highest octet first.
-use Rattle.std.specs.Prelude.{ℕ, ◌+◌, ◌*◌, ◌/◌, ◌%◌, cond, List, [], ◌∷◌, length, drop, Some, None, Option, nat_lt}
+use Rattle.std.specs.Prelude.{ℕ, ◌+◌, ◌*◌, ◌/◌, ◌%◌, cond, List, [], ◌∷◌, length, drop, Some, None, Option, nat_lt, slice_index}
 
 -- the number that octets stand for
 abbrev pub number16 : ℕ → ℕ → ℕ
@@ -14,6 +14,9 @@ number32 a b c d = a * 16777216 + b * 65536 + c * 256 + d
 -- one ignored bit, then 31 bits
 abbrev pub number31 : ℕ → ℕ → ℕ → ℕ → ℕ
 number31 a b c d = number32 a b c d % 2147483648
+
+abbrev pub number31_of : List ℕ → ℕ
+number31_of xs = number31 (slice_index xs 0) (slice_index xs 1) (slice_index xs 2) (slice_index xs 3)
 
 -- the octets that stand for a number
 abbrev pub octets16 : ℕ → List ℕ

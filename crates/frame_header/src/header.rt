@@ -1,14 +1,13 @@
 // The types of frames, and the nine octets before every payload.
 ghost use Rattle.std.specs.Prelude.{◌≡◌};
-ghost use Rattle.frame_header.specs.Codes.{kind_number, kind_of};
-ghost use Rattle.frame_header.specs.Header.{split_header, header_octets};
+ghost use Rattle.frame_header.specs.Header.{split_header};
 ghost use Rattle.frame_header.specs.View.{split_view};
 
 use crate::flags::Flags;
 use crate::octets::be31;
 use std::fmt;
 
-#[derive(Clone, Copy)]
+#[derive(Clone, Copy, Debug, PartialEq, Eq)]
 pub enum Kind {
     Data,
     Headers,
@@ -23,11 +22,13 @@ pub enum Kind {
     Unknown(u8),
 }
 
-impl Kind {
-    // The type that an octet stands for.
-    fn of(octet: u8) -> Kind
-        ensures { result ≡ kind_of octet }
-    {
+// The type that an octet stands for.
+impl From<u8> for Kind {
+    ghost use Rattle.frame_header.specs.Codes.{kind_of};
+
+    ghost from_gives = { λ octet kind. kind ≡ kind_of octet };
+
+    fn from(octet: u8) -> Kind {
         match octet {
             0 => Kind::Data,
             1 => Kind::Headers,
@@ -42,12 +43,16 @@ impl Kind {
             _ => Kind::Unknown(octet),
         }
     }
+}
 
-    // The octet that stands for the type.
-    fn number(self) -> u8
-        ensures { result ≡ kind_number self }
-    {
-        match self {
+// The octet that stands for the type.
+impl From<Kind> for u8 {
+    ghost use Rattle.frame_header.specs.Codes.{kind_number};
+
+    ghost from_gives = { λ kind octet. octet ≡ kind_number kind };
+
+    fn from(kind: Kind) -> u8 {
+        match kind {
             Kind::Data => 0,
             Kind::Headers => 1,
             Kind::Priority => 2,
@@ -85,7 +90,7 @@ impl fmt::Display for Kind {
 pub type HeaderOctets = [u8; 9];
 
 // `length` counts the payload's octets; `stream` has 31 bits.
-#[derive(Clone, Copy)]
+#[derive(Clone, Copy, Debug, PartialEq, Eq)]
 pub struct Header {
     pub length: u32,
     pub kind: Kind,
@@ -98,29 +103,32 @@ impl Header {
     pub fn split(octets: &[u8]) -> Option<(Header, &[u8])>
         ensures { split_view result ≡ split_header octets.now }
     {
-        let [l0, l1, l2, kind, flags, s0, s1, s2, s3, rest @ ..] = octets else {
-            return None;
-        };
+        let (&[l0, l1, l2, kind, bits, s0, s1, s2, s3], rest) = octets.split_first_chunk::<9>()?;
         let header = Header {
-            length: u32::from(*l0) * 65536 + u32::from(*l1) * 256 + u32::from(*l2),
-            kind: Kind::of(*kind),
-            flags: Flags { bits: *flags },
-            stream: be31(*s0, *s1, *s2, *s3),
+            length: u32::from_be_bytes([0, l0, l1, l2]),
+            kind: Kind::from(kind),
+            flags: Flags { bits },
+            stream: be31([s0, s1, s2, s3]),
         };
         Some((header, rest))
     }
-    // The header as it is written; the ignored bit is 0.
-    pub fn octets(self) -> HeaderOctets
-        ensures { result ≡ header_octets self }
-    {
-        let [_, l0, l1, l2] = self.length.to_be_bytes();
-        let [s0, s1, s2, s3] = (self.stream % 0x8000_0000).to_be_bytes();
+}
+
+// The header as it is written; the ignored bit is 0.
+impl From<Header> for HeaderOctets {
+    ghost use Rattle.frame_header.specs.Header.{header_octets};
+
+    ghost from_gives = { λ header octets. octets ≡ header_octets header };
+
+    fn from(header: Header) -> HeaderOctets {
+        let [_, l0, l1, l2] = header.length.to_be_bytes();
+        let [s0, s1, s2, s3] = (header.stream % 0x8000_0000).to_be_bytes();
         [
             l0,
             l1,
             l2,
-            self.kind.number(),
-            self.flags.bits,
+            u8::from(header.kind),
+            header.flags.bits,
             s0,
             s1,
             s2,

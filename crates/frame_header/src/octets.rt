@@ -1,17 +1,10 @@
 // Numbers as octets, the highest octet first.
-ghost use Rattle.std.specs.Prelude.{◌≡◌};
-ghost use Rattle.frame_header.specs.Octets.{number31, number32};
-
-// 32 bits.
-pub fn be32(a: u8, b: u8, c: u8, d: u8) -> u32
-    ensures { result ≡ number32 a b c d }
-{
-    u32::from_be_bytes([a, b, c, d])
-}
+ghost use Rattle.std.specs.Prelude.{◌≡◌, slice_index};
+ghost use Rattle.frame_header.specs.Octets.{number31_of};
 
 // 31 bits after one ignored bit.
-pub fn be31(a: u8, b: u8, c: u8, d: u8) -> u32
-    ensures { result ≡ number31 a b c d }
+pub fn be31(octets: [u8; 4]) -> u32
+    ensures { result ≡ number31_of octets }
 {
-    be32(a, b, c, d) % 0x8000_0000
+    u32::from_be_bytes(octets) % 0x8000_0000
 }

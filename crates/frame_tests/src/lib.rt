@@ -3,9 +3,12 @@
 
 #[cfg(test)]
 mod tests {
-    use frames::code::ErrorCode;
+    use frames::code::{ErrorCode, UnknownCode};
+    use frames::cut::{Refusal, Unread};
+    use frames::frame::Frame;
+    use frames::settings::{Setting, SettingName};
     use wire::outgoing::{Outgoing, Unwritten};
-    use wire::read::{Reading, read_frame};
+    use wire::read::read_frame;
 
     #[test]
     fn our_settings_allow_16_streams_and_no_old_priorities(rt: HostRuntime) {
@@ -54,7 +57,7 @@ mod tests {
     // The code of the fault that the octets give, if they give one.
     fn fault_code(octets: &[u8], seen: u32) -> Option<ErrorCode> {
         match read_frame(octets, seen) {
-            Reading::Faulty(fault) => Some(fault.code),
+            Err(Unread::Faulty(fault)) => Some(fault.code),
             _ => None,
         }
     }
@@ -82,5 +85,56 @@ mod tests {
             fault_code(too_long_for_any_type, 0),
             Some(ErrorCode::FrameSizeError)
         );
+    }
+
+    #[test]
+    fn a_frame_that_is_not_whole_is_refused(rt: HostRuntime) {
+        let cut_short = read_frame(b"\x00\x00\x08\x06\x00\x00\x00\x00\x00\x01\x02", 0);
+        assert!(rt; matches!(cut_short, Err(Unread::Refused(Refusal::Incomplete))));
+        assert_eq!(rt; u8::from(Refusal::Incomplete), 22);
+    }
+
+    #[test]
+    fn settings_are_read_pair_by_pair_in_order(rt: HostRuntime) {
+        let octets =
+            b"\x00\x00\x0c\x04\x00\x00\x00\x00\x00\x00\x03\x00\x00\x00\x64\x00\x04\x00\x00\xff\xff";
+        let Ok(read) = read_frame(octets, 0) else {
+            panic!(rt; "a fault");
+        };
+        assert_eq!(rt; read.length, 21);
+        let Frame::Settings { list } = read.frame else {
+            panic!(rt; "no SETTINGS");
+        };
+        let mut pairs = list.iter();
+        let first = Setting {
+            name: SettingName::MaxConcurrentStreams,
+            value: 100,
+        };
+        let second = Setting {
+            name: SettingName::InitialWindowSize,
+            value: 65_535,
+        };
+        assert_eq!(rt; pairs.next(), Some(first));
+        assert_eq!(rt; pairs.next(), Some(second));
+        assert_eq!(rt; pairs.next(), None);
+    }
+
+    #[test]
+    fn headers_carry_their_block(rt: HostRuntime) {
+        let mut buffer = [0u8; 12];
+        let headers = Outgoing::Headers {
+            stream: 3,
+            block: b"\x88\x84",
+            end: true,
+        };
+        assert_eq!(rt; headers.write(&mut buffer), Ok(11));
+        assert!(rt; buffer == *b"\x00\x00\x02\x01\x05\x00\x00\x00\x03\x88\x84\x00");
+    }
+
+    #[test]
+    fn a_number_that_no_code_has_is_told(rt: HostRuntime) {
+        assert_eq!(rt; ErrorCode::try_from(7), Ok(ErrorCode::RefusedStream));
+        assert_eq!(rt; ErrorCode::try_from(14), Err(UnknownCode(14)));
+        assert_eq!(rt; u32::from(ErrorCode::Http11Required), 13);
     }
 }

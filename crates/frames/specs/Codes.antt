@@ -1,6 +1,7 @@
 -- The numbers of error codes.
-use Rattle.std.specs.Prelude.{ℕ, cond, Some, None, Option, ◌==◌}
+use Rattle.std.specs.Prelude.{ℕ, cond, Ok, Err, Result, ◌==◌}
 use Rattle.frames.specs.declared.code.ErrorCode.{ErrorCode}
+use Rattle.frames.specs.declared.code.UnknownCode.{UnknownCode}
 use Rattle.frames.specs.declared.code.ErrorCode.TheVariants.{NoError, ProtocolError, InternalError, FlowControlError, SettingsTimeout, StreamClosed, FrameSizeError, RefusedStream, Cancel, CompressionError, ConnectError, EnhanceYourCalm, InadequateSecurity, Http11Required}
 
 -- the number of each error code
@@ -20,21 +21,21 @@ code_number EnhanceYourCalm = 11
 code_number InadequateSecurity = 12
 code_number Http11Required = 13
 
--- the code that a number stands for, if it has a name
-abbrev pub code_of : ℕ → Option ErrorCode
+-- the code that a number stands for, or that none has it
+abbrev pub code_of : ℕ → Result ErrorCode UnknownCode
 code_of n =
-    cond (n == 0) (Some NoError)
-    (cond (n == 1) (Some ProtocolError)
-    (cond (n == 2) (Some InternalError)
-    (cond (n == 3) (Some FlowControlError)
-    (cond (n == 4) (Some SettingsTimeout)
-    (cond (n == 5) (Some StreamClosed)
-    (cond (n == 6) (Some FrameSizeError)
-    (cond (n == 7) (Some RefusedStream)
-    (cond (n == 8) (Some Cancel)
-    (cond (n == 9) (Some CompressionError)
-    (cond (n == 10) (Some ConnectError)
-    (cond (n == 11) (Some EnhanceYourCalm)
-    (cond (n == 12) (Some InadequateSecurity)
-    (cond (n == 13) (Some Http11Required)
-    None)))))))))))))
+    cond (n == 0) (Ok NoError)
+    (cond (n == 1) (Ok ProtocolError)
+    (cond (n == 2) (Ok InternalError)
+    (cond (n == 3) (Ok FlowControlError)
+    (cond (n == 4) (Ok SettingsTimeout)
+    (cond (n == 5) (Ok StreamClosed)
+    (cond (n == 6) (Ok FrameSizeError)
+    (cond (n == 7) (Ok RefusedStream)
+    (cond (n == 8) (Ok Cancel)
+    (cond (n == 9) (Ok CompressionError)
+    (cond (n == 10) (Ok ConnectError)
+    (cond (n == 11) (Ok EnhanceYourCalm)
+    (cond (n == 12) (Ok InadequateSecurity)
+    (cond (n == 13) (Ok Http11Required)
+    (Err (record { 0 = n })))))))))))))))

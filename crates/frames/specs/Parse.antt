@@ -3,12 +3,12 @@ use Rattle.std.specs.Prelude.{ℕ, ◌-◌, ◌%◌, Bool, true, false, cond, no
 use Rattle.frames.specs.declared.code.ErrorCode.{ErrorCode}
 use Rattle.frames.specs.declared.code.ErrorCode.TheVariants.{ProtocolError, FrameSizeError}
 use Rattle.frames.specs.declared.fault.Fault.{Fault}
-use Rattle.frames.specs.declared.fault.Scope.TheVariants.{Connection}
 use Rattle.frame_header.specs.declared.header.Header.{Header}
 use Rattle.frame_header.specs.declared.header.Kind.{Kind}
 use Rattle.frame_header.specs.declared.header.Kind.TheVariants.{Data, Headers, Priority, RstStream, Settings, PushPromise, Ping, GoAway, WindowUpdate, Continuation, Unknown}
 use Rattle.frame_header.specs.Codes.{flag}
 use Rattle.frame_header.specs.Octets.{number31, number32}
+use Rattle.frames.specs.Fault.{connection_fault}
 use Rattle.frames.specs.View.{Said, says_data, says_headers, says_priority, says_rst_stream, says_settings, says_settings_ack, says_ping, says_ping_ack, says_goaway, says_window_update, says_continuation, says_unknown}
 
 -- a rule that is broken decides; else what comes after it does
@@ -130,7 +130,7 @@ read_by_kind (Unknown k) h xs seen = Ok (says_unknown k h.stream)
 -- a broken rule of a frame by itself is a fault of the connection, at the frame's stream
 abbrev pub placed : ℕ → Result Said ErrorCode → Result Said Fault
 placed stream (Ok f) = Ok f
-placed stream (Err code) = Err (record { scope = Connection; code = code; place = stream })
+placed stream (Err code) = Err (connection_fault code stream)
 
 -- what a frame says, or its fault; `seen` is the highest stream of any HEADERS
 abbrev pub parsed : Header → List ℕ → ℕ → Result Said Fault

@@ -3,11 +3,11 @@ use Rattle.std.specs.Prelude.{ℕ, Bool, cond, ◌||◌, List, [], ◌∷◌, So
 use Rattle.frames.specs.declared.code.ErrorCode.{ErrorCode}
 use Rattle.frames.specs.declared.code.ErrorCode.TheVariants.{ProtocolError, FlowControlError}
 use Rattle.frames.specs.declared.fault.Fault.{Fault}
-use Rattle.frames.specs.declared.fault.Scope.TheVariants.{Connection}
 use Rattle.frames.specs.declared.settings.Setting.{Setting}
 use Rattle.frames.specs.declared.settings.SettingName.{SettingName}
 use Rattle.frames.specs.declared.settings.SettingName.TheVariants.{HeaderTableSize, EnablePush, MaxConcurrentStreams, InitialWindowSize, MaxFrameSize, MaxHeaderListSize, NoRfc7540Priorities, Unknown}
 use Rattle.frame_header.specs.Octets.{number16, number32, split_front}
+use Rattle.frames.specs.Fault.{connection_fault}
 
 -- the number of each setting
 abbrev pub name_number : SettingName → ℕ
@@ -34,7 +34,7 @@ name_of n =
 
 -- a connection fault on stream 0, where all settings come
 abbrev pub fault_when : Bool → ErrorCode → Option Fault
-fault_when broken code = cond broken (Some (record { scope = Connection; code = code; place = 0 })) None
+fault_when broken code = cond broken (Some (connection_fault code 0)) None
 
 -- settings 2 and 9 are 0 or 1; setting 4 is below 2^31; setting 5 is from 16,384 to 16,777,215; others may have any value
 abbrev pub out_of_range : SettingName → ℕ → Option Fault

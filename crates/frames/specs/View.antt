@@ -1,11 +1,6 @@
 -- What the code's answers say, with lists in place of what they borrow.
 use Rattle.std.specs.Prelude.{ℕ, Bool, List, Some, None, Ok, Err, Option, Result}
-use Rattle.std.specs.Borrow.{Bor}
-use Rattle.frames.specs.declared.code.ErrorCode.{ErrorCode}
-use Rattle.frames.specs.declared.cut.Cut.{Cut}
-use Rattle.frames.specs.declared.cut.Cut.TheVariants as cut
-use Rattle.frames.specs.declared.cut.Refusal.{Refusal}
-use Rattle.frames.specs.declared.fault.Fault.{Fault}
+use Rattle.frames.specs.declared.cut.RawFrame.{RawFrame}
 use Rattle.frames.specs.declared.frame.Frame.{Frame}
 use Rattle.frames.specs.declared.frame.Frame.TheVariants.{Data, Headers, Priority, RstStream, Settings, SettingsAck, Ping, PingAck, GoAway, WindowUpdate, Continuation, Unknown}
 use Rattle.frame_header.specs.declared.header.Header.{Header}
@@ -41,29 +36,15 @@ said (WindowUpdate s n) = says_window_update s n
 said (Continuation s f h) = says_continuation s f.now h
 said (Unknown k s) = says_unknown k s
 
-abbrev pub frame_view : Result Frame ErrorCode → Result Said ErrorCode
-frame_view (Ok f) = Ok (said f)
-frame_view (Err e) = Err e
+-- an answer with what its value says in the value's place; an error stays
+abbrev pub ok_view : {A B E : Type 0} → (A → B) → Result A E → Result B E
+ok_view view (Ok x) = Ok (view x)
+ok_view view (Err e) = Err e
 
-abbrev pub fault_view : Result Frame Fault → Result Said Fault
-fault_view (Ok f) = Ok (said f)
-fault_view (Err e) = Err e
-
-abbrev pub octets_view : Result (Bor (List ℕ)) ErrorCode → Result (List ℕ) ErrorCode
-octets_view (Ok x) = Ok x.now
-octets_view (Err e) = Err e
+-- a frame that was cut off: its header and its payload
+abbrev pub raw_view : RawFrame → Header × List ℕ
+raw_view f = (f.header, f.payload.now)
 
 abbrev pub pair_view : Option (Setting × SettingsList) → Option (Setting × List ℕ)
 pair_view None = None
 pair_view (Some p) = Some (p.0, p.1.octets.now)
-
--- what stands at the front of some octets
-pub data Piece : Type 0 where
-  whole_frame : (header : Header) (payload : List ℕ) → Piece
-  refused : Refusal → Piece
-  faulty : Fault → Piece
-
-abbrev pub cut_view : Cut → Piece
-cut_view (cut.Frame h p) = whole_frame h p.now
-cut_view (cut.Refused r) = refused r
-cut_view (cut.Faulty f) = faulty f

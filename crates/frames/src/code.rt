@@ -1,7 +1,7 @@
 // The error codes of HTTP/2, by their names.
 ghost use Rattle.std.specs.Prelude.{◌≡◌};
-ghost use Rattle.frames.specs.Codes.{code_number, code_of};
 
+use std::error::Error;
 use std::fmt;
 
 #[derive(Clone, Copy, PartialEq, Eq, Debug)]
@@ -22,12 +22,14 @@ pub enum ErrorCode {
     Http11Required,
 }
 
-impl ErrorCode {
-    // The number that stands for the code in RST_STREAM and GOAWAY.
-    pub fn number(self) -> u32
-        ensures { result ≡ code_number self }
-    {
-        match self {
+// The number that stands for the code in RST_STREAM and GOAWAY.
+impl From<ErrorCode> for u32 {
+    ghost use Rattle.frames.specs.Codes.{code_number};
+
+    ghost from_gives = { λ code number. number ≡ code_number code };
+
+    fn from(code: ErrorCode) -> u32 {
+        match code {
             ErrorCode::NoError => 0,
             ErrorCode::ProtocolError => 1,
             ErrorCode::InternalError => 2,
@@ -44,30 +46,48 @@ impl ErrorCode {
             ErrorCode::Http11Required => 13,
         }
     }
+}
 
-    // The code that a number stands for; numbers above 13 have no name.
-    pub fn of(number: u32) -> Option<ErrorCode>
-        ensures { result ≡ code_of number }
-    {
+// A number that no code has.
+#[derive(Clone, Copy, PartialEq, Eq, Debug)]
+pub struct UnknownCode(pub u32);
+
+// The code that a number stands for; numbers above 13 have no name.
+impl TryFrom<u32> for ErrorCode {
+    ghost use Rattle.frames.specs.Codes.{code_of};
+
+    type Error = UnknownCode;
+
+    ghost try_from_gives = { λ number code. code ≡ code_of number };
+
+    fn try_from(number: u32) -> Result<ErrorCode, UnknownCode> {
         match number {
-            0 => Some(ErrorCode::NoError),
-            1 => Some(ErrorCode::ProtocolError),
-            2 => Some(ErrorCode::InternalError),
-            3 => Some(ErrorCode::FlowControlError),
-            4 => Some(ErrorCode::SettingsTimeout),
-            5 => Some(ErrorCode::StreamClosed),
-            6 => Some(ErrorCode::FrameSizeError),
-            7 => Some(ErrorCode::RefusedStream),
-            8 => Some(ErrorCode::Cancel),
-            9 => Some(ErrorCode::CompressionError),
-            10 => Some(ErrorCode::ConnectError),
-            11 => Some(ErrorCode::EnhanceYourCalm),
-            12 => Some(ErrorCode::InadequateSecurity),
-            13 => Some(ErrorCode::Http11Required),
-            _ => None,
+            0 => Ok(ErrorCode::NoError),
+            1 => Ok(ErrorCode::ProtocolError),
+            2 => Ok(ErrorCode::InternalError),
+            3 => Ok(ErrorCode::FlowControlError),
+            4 => Ok(ErrorCode::SettingsTimeout),
+            5 => Ok(ErrorCode::StreamClosed),
+            6 => Ok(ErrorCode::FrameSizeError),
+            7 => Ok(ErrorCode::RefusedStream),
+            8 => Ok(ErrorCode::Cancel),
+            9 => Ok(ErrorCode::CompressionError),
+            10 => Ok(ErrorCode::ConnectError),
+            11 => Ok(ErrorCode::EnhanceYourCalm),
+            12 => Ok(ErrorCode::InadequateSecurity),
+            13 => Ok(ErrorCode::Http11Required),
+            _ => Err(UnknownCode(number)),
         }
     }
 }
+
+impl fmt::Display for UnknownCode {
+    fn fmt<W: fmt::Write>(&self, f: &mut fmt::Formatter<W>) -> fmt::Result {
+        write!(f, "no error has the code {}", self.0)
+    }
+}
+
+impl Error for UnknownCode {}
 
 impl fmt::Display for ErrorCode {
     fn fmt<W: fmt::Write>(&self, f: &mut fmt::Formatter<W>) -> fmt::Result {

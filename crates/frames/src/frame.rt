@@ -20,6 +20,7 @@ pub enum Frame<'a> {
     Priority {
         stream: u32,
     },
+    // `code` is the number that came, here and in GOAWAY: it need not name an `ErrorCode`.
     RstStream {
         stream: u32,
         code: u32,
@@ -49,6 +50,7 @@ pub enum Frame<'a> {
         fragment: &'a [u8],
         end_headers: bool,
     },
+    // `kind` is the number of a type that has no name.
     Unknown {
         kind: u8,
         stream: u32,

@@ -1,2 +1,2 @@
 // Numbers as octets, the highest octet first.
-pub use frame_header::octets::{be31, be32};
+pub use frame_header::octets::be31;

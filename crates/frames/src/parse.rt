@@ -1,14 +1,15 @@
 // Reads one frame: every check that needs nothing but the frame and the highest stream seen, in the order of the rules.
 ghost use Rattle.std.specs.Prelude.{◌≡◌};
-ghost use Rattle.frames.specs.Parse.{idle, unpadded, without_priority, read_data, read_headers, read_rst_stream, read_settings, read_ping, read_goaway, read_window_update, read_by_kind, parsed};
-ghost use Rattle.frames.specs.View.{frame_view, fault_view, octets_view};
+ghost use Rattle.frames.specs.Parse.{idle, is_padded, unpadded, read_data, read_headers, read_rst_stream, read_settings, read_ping, read_goaway, read_window_update, read_by_kind, parsed};
+ghost use Rattle.frames.specs.View.{said, ok_view};
 
 use crate::code::ErrorCode;
-use crate::fault::{Fault, Scope};
+use crate::cut::RawFrame;
+use crate::fault::Fault;
 use crate::flags::Flags;
 use crate::frame::Frame;
-use crate::header::{Header, Kind};
-use crate::octets::{be31, be32};
+use crate::header::Kind;
+use crate::octets::be31;
 use crate::settings::SettingsList;
 
 // A stream that no HEADERS has opened: an even one, or one above the highest seen.
@@ -18,191 +19,170 @@ pub fn is_idle(stream: u32, seen: u32) -> bool
     (stream % 2 == 0) | (stream > seen)
 }
 
-// The payload without its pad count and padding.
-fn unpad(padded: bool, payload: &[u8]) -> Result<&[u8], ErrorCode>
-    ensures { octets_view result ≡ unpadded padded payload.now }
-{
-    if !padded {
-        return Ok(payload);
-    }
-    let Some((count, rest)) = payload.split_first() else {
-        return Err(ErrorCode::FrameSizeError);
-    };
-    let count = usize::from(*count);
-    if count > rest.len() {
-        return Err(ErrorCode::ProtocolError);
-    }
-    let (octets, _) = rest.split_at(rest.len() - count);
-    Ok(octets)
-}
-
-// What follows the five octets of the old priority scheme.
-fn skip_priority(present: bool, payload: &[u8]) -> Result<&[u8], ErrorCode>
-    ensures { octets_view result ≡ without_priority present payload.now }
-{
-    if !present {
-        return Ok(payload);
-    }
-    if payload.len() < 5 {
-        return Err(ErrorCode::FrameSizeError);
-    }
-    let (_, rest) = payload.split_at(5);
-    Ok(rest)
-}
-
-fn data<'a>(header: Header, payload: &'a [u8], seen: u32) -> Result<Frame<'a>, ErrorCode>
-    ensures { frame_view result ≡ read_data header payload.now seen }
-{
-    if is_idle(header.stream, seen) {
-        return Err(ErrorCode::ProtocolError);
-    }
-    let octets = unpad(header.flags.has(Flags::PADDED), payload)?;
-    Ok(Frame::Data {
-        stream: header.stream,
-        octets,
-        counted: payload.len(),
-        end_stream: header.flags.has(Flags::END_STREAM),
-    })
-}
-
-fn headers<'a>(header: Header, payload: &'a [u8]) -> Result<Frame<'a>, ErrorCode>
-    ensures { frame_view result ≡ read_headers header payload.now }
-{
-    if header.stream % 2 == 0 {
-        return Err(ErrorCode::ProtocolError);
-    }
-    let rest = unpad(header.flags.has(Flags::PADDED), payload)?;
-    let fragment = skip_priority(header.flags.has(Flags::PRIORITY), rest)?;
-    Ok(Frame::Headers {
-        stream: header.stream,
-        fragment,
-        end_headers: header.flags.has(Flags::END_HEADERS),
-        end_stream: header.flags.has(Flags::END_STREAM),
-    })
-}
-
-fn rst_stream<'a>(header: Header, payload: &'a [u8], seen: u32) -> Result<Frame<'a>, ErrorCode>
-    ensures { frame_view result ≡ read_rst_stream header payload.now seen }
-{
-    if is_idle(header.stream, seen) {
-        return Err(ErrorCode::ProtocolError);
-    }
-    let [a, b, c, d] = payload else {
-        return Err(ErrorCode::FrameSizeError);
-    };
-    Ok(Frame::RstStream {
-        stream: header.stream,
-        code: be32(*a, *b, *c, *d),
-    })
-}
-
-fn settings<'a>(header: Header, payload: &'a [u8]) -> Result<Frame<'a>, ErrorCode>
-    ensures { frame_view result ≡ read_settings header payload.now }
-{
-    if header.stream != 0 {
-        return Err(ErrorCode::ProtocolError);
-    }
-    match header.flags.has(Flags::ACK) {
-        true if payload.is_empty() => Ok(Frame::SettingsAck),
-        false if payload.len() % 6 == 0 => Ok(Frame::Settings {
-            list: SettingsList { octets: payload },
-        }),
-        _ => Err(ErrorCode::FrameSizeError),
-    }
-}
-
-fn ping<'a>(header: Header, payload: &'a [u8]) -> Result<Frame<'a>, ErrorCode>
-    ensures { frame_view result ≡ read_ping header payload.now }
-{
-    if header.stream != 0 {
-        return Err(ErrorCode::ProtocolError);
-    }
-    let Ok(octets) = <[u8; 8]>::try_from(payload) else {
-        return Err(ErrorCode::FrameSizeError);
-    };
-    if header.flags.has(Flags::ACK) {
-        Ok(Frame::PingAck { octets })
-    } else {
-        Ok(Frame::Ping { octets })
-    }
-}
-
-fn goaway<'a>(header: Header, payload: &'a [u8]) -> Result<Frame<'a>, ErrorCode>
-    ensures { frame_view result ≡ read_goaway header payload.now }
-{
-    if header.stream != 0 {
-        return Err(ErrorCode::ProtocolError);
-    }
-    if payload.len() < 8 {
-        return Err(ErrorCode::FrameSizeError);
-    }
-    let (fixed, debug) = payload.split_at(8);
-    let [a, b, c, d, e, f, g, h] = fixed else {
-        return Err(ErrorCode::FrameSizeError);
-    };
-    Ok(Frame::GoAway {
-        last: be31(*a, *b, *c, *d),
-        code: be32(*e, *f, *g, *h),
-        debug,
-    })
-}
-
-fn window_update<'a>(header: Header, payload: &'a [u8], seen: u32) -> Result<Frame<'a>, ErrorCode>
-    ensures { frame_view result ≡ read_window_update header payload.now seen }
-{
-    let [a, b, c, d] = payload else {
-        return Err(ErrorCode::FrameSizeError);
-    };
-    let increment = be31(*a, *b, *c, *d);
-    if header.stream == 0 {
-        if increment == 0 {
+impl<'a> RawFrame<'a> {
+    // The payload without its pad count and padding.
+    fn unpadded(self) -> Result<&'a [u8], ErrorCode>
+        ensures { ok_view (λ x. x.now) result ≡ unpadded (is_padded self.entry.header) self.entry.payload.now }
+    {
+        if !self.header.flags.has(Flags::PADDED) {
+            return Ok(self.payload);
+        }
+        let (count, rest) = self.payload.split_first().ok_or(ErrorCode::FrameSizeError)?;
+        let count = usize::from(*count);
+        if count > rest.len() {
             return Err(ErrorCode::ProtocolError);
         }
-    } else if is_idle(header.stream, seen) {
-        return Err(ErrorCode::ProtocolError);
+        Ok(&rest[..rest.len() - count])
     }
-    Ok(Frame::WindowUpdate {
-        stream: header.stream,
-        increment,
-    })
-}
 
-fn by_kind<'a>(header: Header, payload: &'a [u8], seen: u32) -> Result<Frame<'a>, ErrorCode>
-    ensures { frame_view result ≡ read_by_kind header.kind header payload.now seen }
-{
-    let stream = header.stream;
-    match header.kind {
-        Kind::Data => data(header, payload, seen),
-        Kind::Headers => headers(header, payload),
-        Kind::Priority => Ok(Frame::Priority { stream }),
-        Kind::RstStream => rst_stream(header, payload, seen),
-        Kind::Settings => settings(header, payload),
-        Kind::PushPromise => Err(ErrorCode::ProtocolError),
-        Kind::Ping => ping(header, payload),
-        Kind::GoAway => goaway(header, payload),
-        Kind::WindowUpdate => window_update(header, payload, seen),
-        Kind::Continuation => {
-            Ok(Frame::Continuation {
-                stream,
-                fragment: payload,
-                end_headers: header.flags.has(Flags::END_HEADERS),
-            })
+    // DATA: on no idle stream, and without its padding.
+    fn data(self, seen: u32) -> Result<Frame<'a>, ErrorCode>
+        ensures { ok_view said result ≡ read_data self.entry.header self.entry.payload.now seen }
+    {
+        if is_idle(self.header.stream, seen) {
+            return Err(ErrorCode::ProtocolError);
         }
-        Kind::Unknown(kind) => Ok(Frame::Unknown { kind, stream }),
+        Ok(Frame::Data {
+            stream: self.header.stream,
+            octets: self.unpadded()?,
+            counted: self.payload.len(),
+            end_stream: self.header.flags.has(Flags::END_STREAM),
+        })
     }
-}
 
-// The frame that the header and its payload stand for, or the connection's fault. `seen` is the highest stream of any
-// HEADERS so far.
-pub fn parse<'a>(header: Header, payload: &'a [u8], seen: u32) -> Result<Frame<'a>, Fault>
-    ensures { fault_view result ≡ parsed header payload.now seen }
-{
-    match by_kind(header, payload, seen) {
-        Ok(frame) => Ok(frame),
-        Err(code) => Err(Fault {
-            scope: Scope::Connection,
-            code,
-            place: header.stream,
-        }),
+    // HEADERS: on no even stream, and without its padding and the five octets of the old priority scheme.
+    fn headers(self) -> Result<Frame<'a>, ErrorCode>
+        ensures { ok_view said result ≡ read_headers self.entry.header self.entry.payload.now }
+    {
+        let flags = self.header.flags;
+        if self.header.stream % 2 == 0 {
+            return Err(ErrorCode::ProtocolError);
+        }
+        let mut fragment = self.unpadded()?;
+        if flags.has(Flags::PRIORITY) {
+            fragment = fragment.get(5..).ok_or(ErrorCode::FrameSizeError)?;
+        }
+        Ok(Frame::Headers {
+            stream: self.header.stream,
+            fragment,
+            end_headers: flags.has(Flags::END_HEADERS),
+            end_stream: flags.has(Flags::END_STREAM),
+        })
+    }
+
+    // RST_STREAM: on no idle stream, and four octets.
+    fn rst_stream(self, seen: u32) -> Result<Frame<'a>, ErrorCode>
+        ensures { ok_view said result ≡ read_rst_stream self.entry.header self.entry.payload.now seen }
+    {
+        if is_idle(self.header.stream, seen) {
+            return Err(ErrorCode::ProtocolError);
+        }
+        let code = self.payload.as_array().ok_or(ErrorCode::FrameSizeError)?;
+        Ok(Frame::RstStream {
+            stream: self.header.stream,
+            code: u32::from_be_bytes(*code),
+        })
+    }
+
+    // SETTINGS: on stream 0, and either an empty ACK or whole pairs.
+    fn settings(self) -> Result<Frame<'a>, ErrorCode>
+        ensures { ok_view said result ≡ read_settings self.entry.header self.entry.payload.now }
+    {
+        if self.header.stream != 0 {
+            return Err(ErrorCode::ProtocolError);
+        }
+        match self.header.flags.has(Flags::ACK) {
+            true if self.payload.is_empty() => Ok(Frame::SettingsAck),
+            false if self.payload.len() % 6 == 0 => Ok(Frame::Settings {
+                list: SettingsList {
+                    octets: self.payload,
+                },
+            }),
+            _ => Err(ErrorCode::FrameSizeError),
+        }
+    }
+
+    // PING: on stream 0, and eight octets.
+    fn ping(self) -> Result<Frame<'a>, ErrorCode>
+        ensures { ok_view said result ≡ read_ping self.entry.header self.entry.payload.now }
+    {
+        if self.header.stream != 0 {
+            return Err(ErrorCode::ProtocolError);
+        }
+        let octets = *self.payload.as_array().ok_or(ErrorCode::FrameSizeError)?;
+        if self.header.flags.has(Flags::ACK) {
+            Ok(Frame::PingAck { octets })
+        } else {
+            Ok(Frame::Ping { octets })
+        }
+    }
+
+    // GOAWAY: on stream 0, and at least eight octets.
+    fn goaway(self) -> Result<Frame<'a>, ErrorCode>
+        ensures { ok_view said result ≡ read_goaway self.entry.header self.entry.payload.now }
+    {
+        if self.header.stream != 0 {
+            return Err(ErrorCode::ProtocolError);
+        }
+        let ([a, b, c, d, e, f, g, h], debug) = self
+            .payload
+            .split_first_chunk::<8>()
+            .ok_or(ErrorCode::FrameSizeError)?;
+        Ok(Frame::GoAway {
+            last: be31([*a, *b, *c, *d]),
+            code: u32::from_be_bytes([*e, *f, *g, *h]),
+            debug,
+        })
+    }
+
+    // WINDOW_UPDATE: four octets; on no idle stream but 0, and there no increment of 0.
+    fn window_update(self, seen: u32) -> Result<Frame<'a>, ErrorCode>
+        ensures { ok_view said result ≡ read_window_update self.entry.header self.entry.payload.now seen }
+    {
+        let stream = self.header.stream;
+        let octets = self.payload.as_array().ok_or(ErrorCode::FrameSizeError)?;
+        let increment = be31(*octets);
+        let broken = match stream {
+            0 => increment == 0,
+            _ => is_idle(stream, seen),
+        };
+        if broken {
+            return Err(ErrorCode::ProtocolError);
+        }
+        Ok(Frame::WindowUpdate { stream, increment })
+    }
+
+    // What each type says, or the code of the first of its rules that is broken.
+    fn by_kind(self, seen: u32) -> Result<Frame<'a>, ErrorCode>
+        ensures { ok_view said result ≡ read_by_kind self.entry.header.kind self.entry.header self.entry.payload.now seen }
+    {
+        let stream = self.header.stream;
+        match self.header.kind {
+            Kind::Data => self.data(seen),
+            Kind::Headers => self.headers(),
+            Kind::Priority => Ok(Frame::Priority { stream }),
+            Kind::RstStream => self.rst_stream(seen),
+            Kind::Settings => self.settings(),
+            Kind::PushPromise => Err(ErrorCode::ProtocolError),
+            Kind::Ping => self.ping(),
+            Kind::GoAway => self.goaway(),
+            Kind::WindowUpdate => self.window_update(seen),
+            Kind::Continuation => {
+                Ok(Frame::Continuation {
+                    stream,
+                    fragment: self.payload,
+                    end_headers: self.header.flags.has(Flags::END_HEADERS),
+                })
+            }
+            Kind::Unknown(kind) => Ok(Frame::Unknown { kind, stream }),
+        }
+    }
+
+    // What the frame says, or the connection's fault. `seen` is the highest stream of any HEADERS so far.
+    pub fn parse(self, seen: u32) -> Result<Frame<'a>, Fault>
+        ensures { ok_view said result ≡ parsed self.entry.header self.entry.payload.now seen }
+    {
+        self.by_kind(seen)
+            .map_err(|code| Fault::connection(code, self.header.stream))
     }
 }

@@ -1,14 +1,13 @@
 // The list of a SETTINGS frame: names and values, six octets a pair.
 ghost use Rattle.std.specs.Prelude.{◌≡◌};
-ghost use Rattle.frames.specs.Settings.{name_of, setting_fault, first_pair, pairs, pairs_in};
-ghost use Rattle.frames.specs.View.{pair_view};
+ghost use Rattle.std.specs.Result.{result_err};
 
 use crate::code::ErrorCode;
-use crate::fault::{Fault, Scope};
-use crate::octets::be32;
+use crate::fault::Fault;
 use std::fmt;
+use std::marker::Model;
 
-#[derive(Clone, Copy)]
+#[derive(Clone, Copy, Debug, PartialEq, Eq)]
 pub enum SettingName {
     HeaderTableSize,
     EnablePush,
@@ -20,11 +19,13 @@ pub enum SettingName {
     Unknown(u16),
 }
 
-impl SettingName {
-    // The setting that a number names.
-    fn of(number: u16) -> SettingName
-        ensures { result ≡ name_of number }
-    {
+// The setting that a number names.
+impl From<u16> for SettingName {
+    ghost use Rattle.frames.specs.Settings.{name_of};
+
+    ghost from_gives = { λ number name. name ≡ name_of number };
+
+    fn from(number: u16) -> SettingName {
         match number {
             1 => SettingName::HeaderTableSize,
             2 => SettingName::EnablePush,
@@ -54,16 +55,34 @@ impl fmt::Display for SettingName {
     }
 }
 
-#[derive(Clone, Copy)]
+#[derive(Clone, Copy, Debug, PartialEq, Eq)]
 pub struct Setting {
     pub name: SettingName,
     pub value: u32,
 }
 
+// A pair as it stands in the list.
+impl From<[u8; 6]> for Setting {
+    ghost use Rattle.frames.specs.Settings.{setting_of};
+
+    ghost from_gives = { λ pair setting. setting ≡ setting_of pair };
+
+    fn from(pair: [u8; 6]) -> Setting {
+        let [n0, n1, v0, v1, v2, v3] = pair;
+        Setting {
+            name: SettingName::from(u16::from_be_bytes([n0, n1])),
+            value: u32::from_be_bytes([v0, v1, v2, v3]),
+        }
+    }
+}
+
 impl Setting {
-    // The fault of a value outside the range of its own setting. What a lawful value does is the connection's matter.
-    pub fn fault(self) -> Option<Fault>
-        ensures { result ≡ setting_fault self }
+    ghost use Rattle.frames.specs.Settings.{setting_fault};
+
+    // Whether the value is in the range of its own setting; a fault if not. What a lawful value does is the connection's
+    // matter.
+    pub fn check(self) -> Result<(), Fault>
+        ensures { result_err result ≡ setting_fault self }
     {
         let code = match self.name {
             SettingName::EnablePush | SettingName::NoRfc7540Priorities if self.value > 1 =>
@@ -72,13 +91,9 @@ impl Setting {
                 ErrorCode::FlowControlError,
             SettingName::MaxFrameSize if self.value < 16_384 || self.value > 16_777_215 =>
                 ErrorCode::ProtocolError,
-            _ => return None,
+            _ => return Ok(()),
         };
-        Some(Fault {
-            scope: Scope::Connection,
-            code,
-            place: 0,
-        })
+        Err(Fault::connection(code, 0))
     }
 }
 
@@ -89,16 +104,59 @@ pub struct SettingsList<'a> {
 }
 
 impl<'a> SettingsList<'a> {
-    // The first pair and the list behind it. Pairs act in order, so a reader takes them one at a time.
+    ghost use Rattle.std.specs.Iterator.{YieldsFirst};
+    ghost use Rattle.std.specs.Iterator.Runs.{YieldsInOrder};
+    ghost use Rattle.frames.specs.declared.settings.Setting.{Setting};
+    ghost use Rattle.frames.specs.Settings.{first_pair, pairs, pairs_in};
+    ghost use Rattle.frames.specs.View.{pair_view};
+
+    // The first pair and the list behind it.
+    #[tactic(auto, using(crate::proofs::Split::pairs_split))]
     pub fn split_first(self) -> Option<(Setting, SettingsList<'a>)>
         ensures value { pair_view result ≡ first_pair self.entry.octets.now }
         ensures items { pairs self.entry.octets.now ≡ pairs_in (pair_view result) }
     {
-        let [n0, n1, v0, v1, v2, v3, rest @ ..] = self.octets else {
-            return None;
-        };
-        let name = SettingName::of(u16::from(*n0) * 256 + u16::from(*n1));
-        let value = be32(*v0, *v1, *v2, *v3);
-        Some((Setting { name, value }, SettingsList { octets: rest }))
+        let (pair, rest) = self.octets.split_first_chunk()?;
+        Some((Setting::from(*pair), SettingsList { octets: rest }))
+    }
+
+    // The pairs in order, which is the order in which they act.
+    pub fn iter(self) -> Settings<'a>
+        ensures all { result ≡ pairs self.entry.octets.now }
+        ensures runs { YieldsInOrder (YieldsFirst {A = Setting} (λ left. left)) (λ left. left) }
+    {
+        Settings { left: self }
+    }
+}
+
+// The pairs of a list that are left, seen as the list of them.
+#[derive(Drop)]
+pub struct Settings<'a> {
+    left: SettingsList<'a>,
+}
+
+impl<'a> Model for Settings<'a> {
+    ghost use Rattle.std.specs.Prelude.{List};
+    ghost use Rattle.frames.specs.declared.settings.Setting.{Setting};
+    ghost use Rattle.frames.specs.Settings.{pairs};
+
+    ghost Value = { List Setting };
+
+    ghost view = { λ settings. pairs settings.left.octets.now };
+}
+
+impl<'a> Iterator for Settings<'a> {
+    ghost use Rattle.std.specs.Iterator.{YieldsFirst, item_count};
+
+    type Item = Setting;
+
+    ghost next_gives = { YieldsFirst (λ left. left) };
+
+    ghost remaining = { item_count (λ left. left) };
+
+    fn next(&mut self) -> Option<Setting> {
+        let (setting, left) = self.left.split_first()?;
+        self.left = left;
+        Some(setting)
     }
 }

@@ -67,20 +67,10 @@ pub reads_back : ReadsBack
 reads_back true s n t h = reads (resized t 0) true (0 + 1) s n h
 reads_back false s n t h = reads t true 0 s n h
 
--- What the writer counts on: 200 takes one octet, no status more than five, and only 200 says a length.
+-- What the writer counts on: 200 takes one octet, and only 200 says a length.
 pub ok_short : length (status_octets Ok) ≡ 1
 unfolding index_from index_of
 ok_short = refl
-
-pub status_short : (s : Status) → length (status_octets s) ≤ 5
-unfolding index_from index_of
-status_short Ok = omega arith
-status_short NoContent = omega arith
-status_short NotFound = omega arith
-status_short MethodNotAllowed = omega arith
-status_short Conflict = omega arith
-status_short UriTooLong = omega arith
-status_short InsufficientStorage = omega arith
 
 pub no_content : (s : Status) (n : ℕ) → (s ≡ Ok → ⊥) → [] ≡ content_octets s n
 no_content Ok n h = absurd (h refl)

@@ -1,41 +1,35 @@
 -- Looking a status up in the static table.
-use Rattle.std.proofs.Common.{◌≡◌, ℕ, suc, ◌+◌, Bool, true, false, ◌&&◌, List, Some, None, codes, Decides, Option, sym, refl, ap, ◌∙◌, rules}
-use Rattle.std.proofs.lemmas.Slice.Eq.{bytes_eq-Decides}
-use Rattle.std.proofs.lemmas.Bool.{cond-true, cond-false}
-use Rattle.std.specs.Str.{bytes_eq}
-use Rattle.hpack.specs.Responses.{index_from, index_of, is_field}
-use Rattle.tables.specs.StaticTable.{Field, static_entry}
+use Rattle.std.proofs.Common.{◌≡◌, ℕ, ◌+◌, ◌/◌, ◌%◌, ◌<◌, ◌≤◌, List, [], ◌∷◌, ◌++◌, Some, None, codes, decimal, Option, refl, ap, ◌∙◌, arith}
+use Rattle.std.proofs.lemmas.Fmt.{decimal_digit, decimal_step}
+use Rattle.std.specs.List.{find, range_with_len}
+use Rattle.std.specs.Option.{option_map}
+use Rattle.hpack.specs.declared.status.Status.{Status}
+use Rattle.hpack.specs.declared.status.Status.TheVariants.{Ok, NoContent, NotFound, MethodNotAllowed, Conflict, UriTooLong, InsufficientStorage}
+use Rattle.hpack.specs.Responses.{index_from, index_of, is_field, status_number, three_digits}
+use Rattle.tables.specs.StaticTable.{static_entry}
 
-same : (xs ys : List ℕ) (r : Bool) → Decides r (xs ≡ ys) → r ≡ bytes_eq xs ys
-same xs ys r h = search (rules, bytes_eq-Decides)
-
-pub is_both :
-    (o : Option Field) (n v name value : List ℕ) (p q : Bool) → Some (n, v) ≡ o → Decides p (n ≡ name) → Decides q (v ≡ value) → p ≡ true → q ≡ is_field o (name, value)
-is_both o n v name value p q e dn dv t =
-    same v value q dv
-    ∙ ap (λ (b : Bool). b && bytes_eq v value) (sym t ∙ same n name p dn)
-    ∙ ap (λ (m : Option Field). is_field m (name, value)) e
-
-pub is_not :
-    (o : Option Field) (n v name value : List ℕ) (p : Bool) → Some (n, v) ≡ o → Decides p (n ≡ name) → p ≡ false → p ≡ is_field o (name, value)
-is_not o n v name value p e dn f =
-    f
-    ∙ ap (λ (b : Bool). b && bytes_eq v value) (sym f ∙ same n name p dn)
-    ∙ ap (λ (m : Option Field). is_field m (name, value)) e
+same : (o : Option ℕ) → o ≡ option_map (λ x. x) o
+same None = refl
+same (Some x) = refl
 
 -- Every static entry that is named :status stands at 8 to 14.
-pub only_there : (digits : List ℕ) → index_from 7 8 (codes ":status", digits) ≡ index_of (codes ":status", digits)
+pub only_there :
+    (digits : List ℕ) (r : Option ℕ) → option_map (λ x. x) r ≡ find (λ i. is_field (static_entry i) (codes ":status", digits)) (range_with_len 8 7) → r ≡ index_of (codes ":status", digits)
 unfolding index_from index_of
-only_there digits = refl
+only_there digits r e = same r ∙ e
 
-pub found_here : (n i : ℕ) (f : Field) → is_field (static_entry i) f ≡ true → index_from (suc n) i f ≡ Some i
-unfolding index_from
-found_here n i f h = cond-true _ _ _ h
+-- The number of a status has three digits.
+three : (n : ℕ) → 100 ≤ n → n < 1000 → decimal n ≡ three_digits n
+three n low high =
+    let h : n / 10 / 10 ≡ n / 100 = omega arith in
+    decimal_step n (omega arith) (omega arith)
+    ∙ ap (λ (xs : List ℕ). xs ++ (48 + n % 10) ∷ []) (decimal_step (n / 10) (omega arith) (omega arith) ∙ ap (λ (xs : List ℕ). xs ++ (48 + n / 10 % 10) ∷ []) (decimal_digit (n / 10 / 10) (omega arith) ∙ ap (λ m. (48 + m) ∷ []) h))
 
-pub not_here : (n i : ℕ) (f : Field) → is_field (static_entry i) f ≡ false → index_from (suc n) i f ≡ index_from n (i + 1) f
-unfolding index_from
-not_here n i f h = cond-false _ _ _ h
-
-pub not_there : (i : ℕ) (f : Field) → None ≡ index_from 0 i f
-unfolding index_from
-not_there i f = refl
+pub three_digits_long : (s : Status) → decimal (status_number s) ≡ three_digits (status_number s)
+three_digits_long Ok = three 200 (omega arith) (omega arith)
+three_digits_long NoContent = three 204 (omega arith) (omega arith)
+three_digits_long NotFound = three 404 (omega arith) (omega arith)
+three_digits_long MethodNotAllowed = three 405 (omega arith) (omega arith)
+three_digits_long Conflict = three 409 (omega arith) (omega arith)
+three_digits_long UriTooLong = three 414 (omega arith) (omega arith)
+three_digits_long InsufficientStorage = three 507 (omega arith) (omega arith)

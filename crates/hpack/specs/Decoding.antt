@@ -1,13 +1,13 @@
 -- A field block decoded: one definition over lists, for any fold over the fields.
-use Rattle.std.specs.Prelude.{ℕ, zero, suc, ◌+◌, ◌-◌, Bool, true, false, cond, List, [], ◌∷◌, ◌++◌, length, drop, Some, None, Ok, Err, Option, Result, nat_le, nat_lt}
+use Rattle.std.specs.Prelude.{ℕ, zero, suc, ◌+◌, ◌-◌, Bool, true, false, cond, List, [], ◌∷◌, ◌++◌, length, drop, Some, None, Ok, Err, Option, Result, nat_le, nat_lt, slice_get}
 use Rattle.primitives.specs.Reads.{value_of, used_of, bind}
 use Rattle.representations.specs.Representations.{NameForm, name_at, name_text, Form, indexed_form, literal_form, size_form, representation_of}
 use Rattle.tables.specs.StaticTable.{Field, static_entry}
-use Rattle.tables.specs.DynamicTable.{Dynamic, nth, grown, resized, largest}
+use Rattle.tables.specs.DynamicTable.{Dynamic, grown, resized, largest}
 
 -- The field at an index: the static table up to 61, then the dynamic one, whose newest entry is 62.
 abbrev pub field_at : List Field → ℕ → Option Field
-field_at fs i = cond (nat_lt i 62) (static_entry i) (nth fs (i - 62))
+field_at fs i = cond (nat_lt i 62) (static_entry i) (slice_get fs (i - 62))
 
 abbrev pub name_for : List Field → NameForm → Option (List ℕ)
 name_for fs (name_at i) = bind (field_at fs i) (λ f. Some f.0)

@@ -2,7 +2,7 @@
 ghost use Rattle.std.specs.Prelude.{◌≡◌, ◌<◌};
 ghost use Rattle.hpack.specs.Responses.{status_number};
 
-#[derive(Clone, Copy)]
+#[derive(Clone, Copy, Debug, PartialEq, Eq)]
 pub enum Status {
     Ok,
     NoContent,
@@ -13,12 +13,12 @@ pub enum Status {
     InsufficientStorage,
 }
 
-impl Status {
-    pub fn number(self) -> u16
-        ensures value { result ≡ status_number self }
-        ensures bound { result < 1000 }
-    {
-        match self {
+// The number by which `:status` names it, of three digits.
+impl From<Status> for u16 {
+    ghost from_gives = { λ status number. (number ≡ status_number status) × (number < 1000) };
+
+    fn from(status: Status) -> u16 {
+        match status {
             Status::Ok => 200,
             Status::NoContent => 204,
             Status::NotFound => 404,

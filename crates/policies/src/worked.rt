@@ -12,17 +12,11 @@ pub struct Worked {
     pub urgency: [u8; 6],
 }
 
-// That the definitions give the worked values, by computing them.
-fn computed()
-    ensures { WorkedValues }
-{}
-
 // The worked values, which the definitions of the charge and of both schedulers give.
 pub fn worked_values() -> Worked
     ensures value { (result.charges ≡ 107520 ∷ 860160 ∷ []) × (result.drr ≡ 5 ∷ 1 ∷ 5 ∷ 1 ∷ []) × (result.urgency ≡ 33 ∷ 1 ∷ 8 ∷ 1 ∷ 8 ∷ 1 ∷ []) }
     ensures made { WorkedValues }
 {
-    computed();
     Worked {
         charges: [107520, 860160],
         drr: [5, 1, 5, 1],

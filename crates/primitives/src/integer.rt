@@ -1,6 +1,6 @@
 // Integers behind a prefix: the low bits of an octet, and up to four further octets.
 ghost use Rattle.std.specs.Prelude.{◌≡◌, ◌+◌, ◌^◌, ◌<◌, ◌≤◌, length, take, IfSome};
-ghost use Rattle.primitives.specs.Integers.{integer_below, integer_of, further, WorkedIntegers};
+ghost use Rattle.primitives.specs.Integers.{integer_of, further, WorkedIntegers};
 ghost use Rattle.primitives.specs.Prefixes.{bits_of};
 
 // How many bits of its first octet an integer takes: eight where it begins at an octet of its own.
@@ -11,6 +11,30 @@ pub enum Prefix {
     Six,
     Seven,
     Eight,
+}
+
+// A number that is no number of prefix bits.
+#[derive(Clone, Copy, Debug, PartialEq, Eq)]
+pub struct NoPrefix(pub u8);
+
+// The prefix of so many bits: there are those of 4 to 8.
+impl TryFrom<u8> for Prefix {
+    ghost use Rattle.primitives.specs.Prefixes.{IsPrefixOf};
+
+    type Error = NoPrefix;
+
+    ghost try_from_gives = { IsPrefixOf };
+
+    fn try_from(bits: u8) -> Result<Prefix, NoPrefix> {
+        match bits {
+            4 => Ok(Prefix::Four),
+            5 => Ok(Prefix::Five),
+            6 => Ok(Prefix::Six),
+            7 => Ok(Prefix::Seven),
+            8 => Ok(Prefix::Eight),
+            _ => Err(NoPrefix(bits)),
+        }
+    }
 }
 
 impl Prefix {
@@ -37,20 +61,8 @@ pub fn read_integer(prefix: Prefix, octets: &[u8]) -> Option<(u32, usize)>
     ensures moves { IfSome result (λ p. 1 ≤ p.1) }
     ensures worked { WorkedIntegers }
 {
-    read_below(prefix.size(), octets)
-}
-
-// The same, by how many numbers the prefix can tell apart.
-fn read_below(size: u16, octets: &[u8]) -> Option<(u32, usize)>
-    requires low { 0 < size }
-    requires high { size ≤ 256 }
-    ensures value { result ≡ integer_below size octets.now }
-    ensures bound { IfSome result (λ p. p.1 ≤ length octets.now) }
-    ensures moves { IfSome result (λ p. 1 ≤ p.1) }
-{
-    let Some((first, rest)) = octets.split_first() else {
-        return None;
-    };
+    let size = prefix.size();
+    let (first, rest) = octets.split_first()?;
     let low = u16::from(*first) % size;
     if low < size - 1 {
         return Some((u32::from(low), 1));
@@ -59,6 +71,7 @@ fn read_below(size: u16, octets: &[u8]) -> Option<(u32, usize)>
 }
 
 // The sum of a full prefix and the further octets, of which only the last has its top bit clear.
+// An arm for each number of them is plainer here than a loop: each shows its sum, and no bound has to be carried on.
 fn read_further(low: u16, octets: &[u8]) -> Option<(u32, usize)>
     requires { low < 256 }
     ensures value { result ≡ further low 1 1 (take 4 octets.now) }

@@ -6,19 +6,14 @@ ghost use Rattle.primitives.specs.Views.{read_text};
 use crate::integer::{Prefix, read_integer};
 
 // The string at the front of the octets, and how many octets it takes with its length.
-pub fn read_string<'a>(octets: &'a [u8]) -> Option<(&'a [u8], usize)>
+pub fn read_string(octets: &[u8]) -> Option<(&[u8], usize)>
     ensures value { read_text result ≡ string_of octets.now }
     ensures bound { IfSome result (λ p. p.1 ≤ length octets.now) }
 {
-    if octets.is_empty() || octets[0] >= 128 {
+    if let [128..=255, ..] = octets {
         return None;
     }
     let (length, used) = read_integer(Prefix::Seven, octets)?;
-    let length = length as usize;
-    let (_, left) = octets.split_at(used);
-    if length > left.len() {
-        return None;
-    }
-    let (value, _) = left.split_at(length);
-    Some((value, used + length))
+    let end = used + length as usize;
+    Some((octets.get(used..end)?, end))
 }

@@ -5,65 +5,60 @@ use Rattle.frames.specs.declared.fault.Fault.{Fault}
 use Rattle.frame_header.specs.declared.header.Header.{Header}
 use Rattle.frame_header.specs.declared.header.Kind.{Kind}
 use Rattle.frame_header.specs.declared.header.Kind.TheVariants as kind
+use Rattle.frames.specs.Fault.{connection_fault}
 use Rattle.frames.specs.Parse.{acknowledges, parsed}
 use Rattle.frames.specs.View.{Said, says_data, says_headers, says_priority, says_rst_stream, says_settings, says_settings_ack, says_ping, says_ping_ack, says_goaway, says_window_update, says_continuation, says_unknown}
-use Rattle.tables.specs.DynamicTable.{Dynamic}
 use Rattle.state.specs.declared.queue.Reply.TheVariants.{PingAck}
 use Rattle.state.specs.declared.streams.OpenBlock.{OpenBlock}
 use Rattle.state.specs.declared.streams.Streams.{Streams}
 use Rattle.state.specs.Setters.{with_started, with_window, with_owed}
 use Rattle.reading.specs.declared.meeting.Arrival.TheVariants as arrival
 use Rattle.reading.specs.declared.next.Next.{Next}
-use Rattle.reading.specs.declared.next.Next.TheVariants.{Done, Replies, Fails}
-use Rattle.reading.specs.Faults.{fails_connection}
+use Rattle.reading.specs.declared.next.Next.TheVariants.{Done, Replies}
 use Rattle.reading.specs.Meeting.{arrived}
 use Rattle.reading.specs.Settings.{settings_read}
 use Rattle.reading.specs.Blocks.{fragment_read}
 
 -- DATA: the whole payload is within what is left of the connection's receiving window of 65,535, and is counted, also if
 -- its stream has left or is then at fault.
-abbrev pub data_read : Streams → ℕ → List ℕ → ℕ → Bool → Next × Streams
+abbrev pub data_read : Streams → ℕ → List ℕ → ℕ → Bool → Result Next Fault × Streams
 data_read c stream octets counted end =
-    cond (nat_lt (65535 - c.owed) counted) (fails_connection FlowControlError stream, c)
+    cond (nat_lt (65535 - c.owed) counted) (Err (connection_fault FlowControlError stream), c)
     (arrived (with_owed c (c.owed + counted)) stream (arrival.Data counted end) octets)
 
 -- The connection's sending window may not pass 2^31 - 1. (An increment of 0 there is a fault of the frame by itself.)
-abbrev pub connection_credited : Streams → ℕ → Next × Streams
+abbrev pub connection_credited : Streams → ℕ → Result Next Fault × Streams
 connection_credited c increment =
-    cond (nat_lt 2147483647 (c.window + increment)) (fails_connection FlowControlError 0, c)
-    (Done, with_window c (c.window + increment))
+    cond (nat_lt 2147483647 (c.window + increment)) (Err (connection_fault FlowControlError 0), c)
+    (Ok Done, with_window c (c.window + increment))
 
 -- WINDOW_UPDATE.
-abbrev pub credit_read : Streams → ℕ → ℕ → Next × Streams
+abbrev pub credit_read : Streams → ℕ → ℕ → Result Next Fault × Streams
 credit_read c stream increment =
     cond (not (stream == 0)) (arrived c stream (arrival.Credit increment) []) (connection_credited c increment)
 
 -- HEADERS begin a block.
 abbrev pub block_begun : ℕ → Bool → OpenBlock
-block_begun stream end = record { stream = stream; end_stream = end; length = 0 }
+block_begun stream end = record { stream = stream; end_stream = end; octets = [] }
 
-abbrev pub continued : Bool → Streams → Dynamic → Option OpenBlock → List ℕ → Bool → Next × Streams × Dynamic
-continued shut c t None fragment last = (Done, c, t)
-continued shut c t (Some b) fragment last = fragment_read shut c t b fragment last
-
--- Only field blocks touch the table.
-abbrev pub beside : Dynamic → Next × Streams → Next × Streams × Dynamic
-beside t r = (r.0, r.1, t)
+abbrev pub continued : Streams → Option OpenBlock → List ℕ → Bool → Result Next Fault × Streams
+continued c None fragment last = (Ok Done, c)
+continued c (Some b) fragment last = fragment_read c b fragment last
 
 -- What a frame does. PRIORITY, GOAWAY, acknowledgements and unknown types do nothing.
-abbrev pub acted : Bool → Streams → Dynamic → Said → Next × Streams × Dynamic
-acted shut c t (says_data stream octets counted end) = beside t (data_read c stream octets counted end)
-acted shut c t (says_headers stream fragment last end) = fragment_read shut c t (block_begun stream end) fragment last
-acted shut c t (says_priority stream) = (Done, c, t)
-acted shut c t (says_rst_stream stream code) = beside t (arrived c stream arrival.Reset [])
-acted shut c t (says_settings list) = beside t (settings_read c list)
-acted shut c t says_settings_ack = (Done, c, t)
-acted shut c t (says_ping octets) = (Replies (PingAck octets), c, t)
-acted shut c t (says_ping_ack octets) = (Done, c, t)
-acted shut c t (says_goaway last code debug) = (Done, c, t)
-acted shut c t (says_window_update stream increment) = beside t (credit_read c stream increment)
-acted shut c t (says_continuation stream fragment last) = continued shut c t c.open_block fragment last
-acted shut c t (says_unknown kind stream) = (Done, c, t)
+abbrev pub acted : Streams → Said → Result Next Fault × Streams
+acted c (says_data stream octets counted end) = data_read c stream octets counted end
+acted c (says_headers stream fragment last end) = fragment_read c (block_begun stream end) fragment last
+acted c (says_priority stream) = (Ok Done, c)
+acted c (says_rst_stream stream code) = arrived c stream arrival.Reset []
+acted c (says_settings list) = settings_read c list
+acted c says_settings_ack = (Ok Done, c)
+acted c (says_ping octets) = (Ok (Replies (PingAck octets)), c)
+acted c (says_ping_ack octets) = (Ok Done, c)
+acted c (says_goaway last code debug) = (Ok Done, c)
+acted c (says_window_update stream increment) = credit_read c stream increment
+acted c (says_continuation stream fragment last) = continued c c.open_block fragment last
+acted c (says_unknown kind stream) = (Ok Done, c)
 
 abbrev pub is_settings : Kind → Bool
 is_settings kind.Data = false
@@ -103,12 +98,12 @@ block_fits (Some b) h = is_continuation h.kind && h.stream == b.stream
 abbrev pub may_come : Streams → Header → Bool
 may_come c h = first_fits c.started h && block_fits c.open_block h
 
-abbrev pub parsed_acted : Bool → Streams → Dynamic → Result Said Fault → Next × Streams × Dynamic
-parsed_acted shut c t (Err fault) = (Fails fault, c, t)
-parsed_acted shut c t (Ok frame) = acted shut c t frame
+abbrev pub parsed_acted : Streams → Result Said Fault → Result Next Fault × Streams
+parsed_acted c (Err fault) = (Err fault, c)
+parsed_acted c (Ok frame) = acted c frame
 
 -- One whole frame: the first frame and the open block, then the checks of its type, then what it does.
-abbrev pub frame_read : Bool → Streams → Dynamic → Header → List ℕ → Next × Streams × Dynamic
-frame_read shut c t h payload =
-    cond (may_come c h) (parsed_acted shut (with_started c true) t (parsed h payload c.seen))
-    (fails_connection ProtocolError h.stream, c, t)
+abbrev pub frame_read : Streams → Header → List ℕ → Result Next Fault × Streams
+frame_read c h payload =
+    cond (may_come c h) (parsed_acted (with_started c true) (parsed h payload c.seen))
+    (Err (connection_fault ProtocolError h.stream), c)

@@ -1,4 +1,3 @@
-pub mod Faults
 pub mod Meeting
 pub mod Settings
 pub mod Blocks

@@ -5,6 +5,7 @@ use Rattle.frames.specs.declared.fault.Fault.{Fault}
 use Rattle.frames.specs.declared.settings.Setting.{Setting}
 use Rattle.frames.specs.declared.settings.SettingName.{SettingName}
 use Rattle.frames.specs.declared.settings.SettingName.TheVariants.{HeaderTableSize, EnablePush, MaxConcurrentStreams, InitialWindowSize, MaxFrameSize, MaxHeaderListSize, NoRfc7540Priorities, Unknown}
+use Rattle.frames.specs.Fault.{connection_fault}
 use Rattle.frames.specs.Settings.{setting_fault, pairs}
 use Rattle.state.specs.declared.place.Place.{Place}
 use Rattle.state.specs.declared.queue.Reply.TheVariants.{SettingsAck}
@@ -12,9 +13,8 @@ use Rattle.state.specs.declared.streams.Streams.{Streams}
 use Rattle.state.specs.Setters.{with_initial, with_shrink}
 use Rattle.state.specs.Places.{any_overflows}
 use Rattle.reading.specs.declared.next.Next.{Next}
-use Rattle.reading.specs.declared.next.Next.TheVariants.{Replies, Fails}
+use Rattle.reading.specs.declared.next.Next.TheVariants.{Replies}
 use Rattle.reading.specs.declared.settings.Settled.{Settled}
-use Rattle.reading.specs.Faults.{connection_fault}
 
 abbrev pub settled : ℕ → Bool → Settled
 settled initial shrink = record { initial = initial; shrink = shrink }
@@ -46,9 +46,9 @@ all_settled places t [] = Ok t
 all_settled places t (s ∷ more) = elim (settled_by places t s) [ Ok u ↦ all_settled places u more | Err fault ↦ Err fault ]
 
 -- What the pairs leave is kept and acknowledged; a fault leaves all as it was.
-abbrev pub settings_kept : Streams → Result Settled Fault → Next × Streams
-settings_kept c (Ok t) = (Replies SettingsAck, with_shrink (with_initial c t.initial) t.shrink)
-settings_kept c (Err fault) = (Fails fault, c)
+abbrev pub settings_kept : Streams → Result Settled Fault → Result Next Fault × Streams
+settings_kept c (Ok t) = (Ok (Replies SettingsAck), with_shrink (with_initial c t.initial) t.shrink)
+settings_kept c (Err fault) = (Err fault, c)
 
-abbrev pub settings_read : Streams → List ℕ → Next × Streams
+abbrev pub settings_read : Streams → List ℕ → Result Next Fault × Streams
 settings_read c octets = settings_kept c (all_settled c.places (settled c.initial c.shrink) (pairs octets))

@@ -1,7 +1,6 @@
 // One whole frame: whether it may come now, its own rules, and what it does.
 ghost use Rattle.std.specs.Prelude.{◌≡◌};
 ghost use Rattle.frames.specs.View.{said};
-ghost use Rattle.tables.specs.Tables.{table_of};
 ghost use Rattle.reading.specs.Acting.{data_read, credit_read, acted, may_come, frame_read};
 
 use crate::blocks::read_fragment;
@@ -9,20 +8,27 @@ use crate::meeting::{Arrival, arrive};
 use crate::next::Next;
 use crate::settings::read_settings;
 use frames::code::ErrorCode;
+use frames::cut::RawFrame;
+use frames::fault::Fault;
 use frames::flags::Flags;
 use frames::frame::Frame;
 use frames::header::{Header, Kind};
-use frames::parse::parse;
+use octets::Octets;
 use state::queue::Reply;
 use state::streams::{OpenBlock, Streams};
-use tables::table::Table;
 
 // DATA: the whole payload counts against the connection's receiving window, also if its stream has left.
-fn data(streams: &mut Streams, stream: u32, octets: &[u8], counted: usize, end_stream: bool) -> Next
+fn data(
+    streams: &mut Streams,
+    stream: u32,
+    octets: &[u8],
+    counted: usize,
+    end_stream: bool,
+) -> Result<Next, Fault>
     ensures { (result, streams.new) ≡ data_read streams.old stream octets.now counted end_stream }
 {
     if counted > usize::from(65_535 - streams.owed) {
-        return Next::connection_fault(ErrorCode::FlowControlError, stream);
+        return Err(Fault::connection(ErrorCode::FlowControlError, stream));
     }
     streams.owed += counted as u16;
     let arrival = Arrival::Data {
@@ -33,7 +39,7 @@ fn data(streams: &mut Streams, stream: u32, octets: &[u8], counted: usize, end_s
 }
 
 // WINDOW_UPDATE: on stream 0 the connection's sending window, else that of the stream's place.
-fn credit(streams: &mut Streams, stream: u32, increment: u32) -> Next
+fn credit(streams: &mut Streams, stream: u32, increment: u32) -> Result<Next, Fault>
     ensures { (result, streams.new) ≡ credit_read streams.old stream increment }
 {
     if stream != 0 {
@@ -41,15 +47,15 @@ fn credit(streams: &mut Streams, stream: u32, increment: u32) -> Next
     }
     let window = u64::from(streams.window) + u64::from(increment);
     if window > 0x7fff_ffff {
-        return Next::connection_fault(ErrorCode::FlowControlError, 0);
+        return Err(Fault::connection(ErrorCode::FlowControlError, 0));
     }
     streams.window = window as u32;
-    Next::Done
+    Ok(Next::Done)
 }
 
 // What a frame does.
-fn act(streams: &mut Streams, table: &mut Table, shut: bool, frame: Frame<'_>) -> Next
-    ensures { (result, streams.new, table_of table.new) ≡ acted shut streams.old (table_of table.old) (said frame.entry) }
+fn act(streams: &mut Streams, frame: Frame<'_>) -> Result<Next, Fault>
+    ensures { (result, streams.new) ≡ acted streams.old (said frame.entry) }
 {
     match frame {
         Frame::Data {
@@ -67,27 +73,27 @@ fn act(streams: &mut Streams, table: &mut Table, shut: bool, frame: Frame<'_>) -
             let block = OpenBlock {
                 stream,
                 end_stream,
-                length: 0,
+                octets: Octets::new(),
             };
-            read_fragment(streams, table, shut, block, fragment, end_headers)
+            read_fragment(streams, block, fragment, end_headers)
         }
         Frame::Continuation {
             fragment,
             end_headers,
             ..
         } => match streams.open_block {
-            None => Next::Done,
-            Some(block) => read_fragment(streams, table, shut, block, fragment, end_headers),
+            None => Ok(Next::Done),
+            Some(block) => read_fragment(streams, block, fragment, end_headers),
         },
         Frame::RstStream { stream, .. } => arrive(streams, stream, Arrival::Reset, &[]),
         Frame::Settings { list } => read_settings(streams, list),
-        Frame::Ping { octets } => Next::Replies(Reply::PingAck(octets)),
+        Frame::Ping { octets } => Ok(Next::Replies(Reply::PingAck(octets))),
         Frame::WindowUpdate { stream, increment } => credit(streams, stream, increment),
         Frame::Priority { .. }
         | Frame::SettingsAck
         | Frame::PingAck { .. }
         | Frame::GoAway { .. }
-        | Frame::Unknown { .. } => Next::Done,
+        | Frame::Unknown { .. } => Ok(Next::Done),
     }
 }
 
@@ -95,35 +101,23 @@ fn act(streams: &mut Streams, table: &mut Table, shut: bool, frame: Frame<'_>) -
 fn admits(streams: &Streams, header: Header) -> bool
     ensures { result ≡ may_come streams.now header }
 {
-    let first = match header.kind {
-        Kind::Settings => streams.started || !header.flags.has(Flags::ACK),
-        _ => streams.started,
+    let first = header.kind == Kind::Settings && !header.flags.has(Flags::ACK);
+    let continues = header.kind == Kind::Continuation;
+    let fits = match &streams.open_block {
+        None => !continues,
+        Some(block) => continues && header.stream == block.stream,
     };
-    let fits = match (streams.open_block, header.kind) {
-        (None, Kind::Continuation) => false,
-        (None, _) => true,
-        (Some(block), Kind::Continuation) => header.stream == block.stream,
-        (Some(_), _) => false,
-    };
-    first & fits
+    (streams.started || first) && fits
 }
 
 // Reads one whole frame.
-pub fn read(
-    streams: &mut Streams,
-    table: &mut Table,
-    shut: bool,
-    header: Header,
-    payload: &[u8],
-) -> Next
-    ensures { (result, streams.new, table_of table.new) ≡ frame_read shut streams.old (table_of table.old) header payload.now }
+pub fn read(streams: &mut Streams, frame: RawFrame<'_>) -> Result<Next, Fault>
+    ensures { (result, streams.new) ≡ frame_read streams.old frame.entry.header frame.entry.payload.now }
 {
+    let header = frame.header;
     if !admits(streams, header) {
-        return Next::connection_fault(ErrorCode::ProtocolError, header.stream);
+        return Err(Fault::connection(ErrorCode::ProtocolError, header.stream));
     }
     streams.started = true;
-    match parse(header, payload, streams.seen) {
-        Err(fault) => Next::Fails(fault),
-        Ok(frame) => act(streams, table, shut, frame),
-    }
+    act(streams, frame.parse(streams.seen)?)
 }

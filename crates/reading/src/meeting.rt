@@ -1,14 +1,16 @@
 // What comes for a stream meets the state of the stream's place.
-ghost use Rattle.std.specs.Prelude.{◌≡◌, ◌+◌, ◌≤◌, length};
-ghost use Rattle.reading.specs.Meeting.{absorbed, received, trailed, credited, met, kept, arrived};
+ghost use Rattle.std.specs.Prelude.{◌≡◌};
+ghost use Rattle.reading.specs.Meeting.{received, trailed, credited, met, kept, arrived};
 
 use crate::next::Next;
 use frames::code::ErrorCode;
+use frames::fault::Fault;
 use state::place::{Place, Request, Stage};
 use state::search::{place_of, put, sent, slot_at};
 use state::streams::Streams;
 
-// What came for a stream; the body that DATA brings is lent beside it.
+// What came for a stream; the body that DATA brings is lent beside it. (An enum that borrowed it would need a view with
+// a list in its place, and each definition that case once more.)
 #[derive(Clone, Copy)]
 pub enum Arrival {
     // DATA: the length of its whole payload, and END_STREAM.
@@ -28,62 +30,56 @@ pub enum Met {
     // The place stays, and its request has ended.
     Ends(Place),
     Leaves,
-    Fails(ErrorCode),
-}
-
-// The request with more of its body.
-fn absorb(request: Request, octets: &[u8], counted: u16) -> Request
-    requires whole { request.length + length octets.now ≤ 256 }
-    requires window { request.counted + counted ≤ 65535 }
-    ensures { result ≡ absorbed request octets.now counted }
-{
-    let mut next = request;
-    let at = usize::from(request.length);
-    let n = octets.len();
-    next.body[at..at + n].copy_from_slice(octets);
-    next.length = request.length + n as u16;
-    next.counted = request.counted + counted;
-    next
 }
 
 // DATA for a request: within the stream's receiving window, and a body of at most 256 octets.
-fn receive(place: Place, request: Request, octets: &[u8], counted: usize, end_stream: bool) -> Met
+fn receive(
+    place: Place,
+    request: Request,
+    octets: &[u8],
+    counted: usize,
+    end_stream: bool,
+) -> Result<Met, ErrorCode>
     ensures { result ≡ received place request octets.now counted end_stream }
 {
     if counted > 65_535 - usize::from(request.counted) {
-        return Met::Fails(ErrorCode::FlowControlError);
+        return Err(ErrorCode::FlowControlError);
     }
-    if usize::from(request.length) + octets.len() > 256 {
-        return Met::Fails(ErrorCode::EnhanceYourCalm);
-    }
-    let stage = Stage::Receiving(absorb(request, octets, counted as u16));
+    let mut body = request.body;
+    body.try_extend(octets)
+        .map_err(|_| ErrorCode::EnhanceYourCalm)?;
+    let stage = Stage::Receiving(Request {
+        body,
+        counted: request.counted + counted as u16,
+        ..request
+    });
     let place = Place { stage, ..place };
-    if end_stream {
+    Ok(if end_stream {
         Met::Ends(place)
     } else {
         Met::Stays(place)
-    }
-}
-
-// More room in the place's sending window.
-fn credit(place: Place, initial: u32, increment: u32) -> Met
-    ensures { result ≡ credited place initial increment }
-{
-    if increment == 0 {
-        return Met::Fails(ErrorCode::ProtocolError);
-    }
-    let increments = u128::from(place.increments) + u128::from(increment);
-    if u128::from(initial) + increments > 0x7fff_ffff + u128::from(sent(place.stage)) {
-        return Met::Fails(ErrorCode::FlowControlError);
-    }
-    Met::Stays(Place {
-        increments: increments as u64,
-        ..place
     })
 }
 
+// More room in the place's sending window.
+fn credit(place: Place, initial: u32, increment: u32) -> Result<Met, ErrorCode>
+    ensures { result ≡ credited place initial increment }
+{
+    if increment == 0 {
+        return Err(ErrorCode::ProtocolError);
+    }
+    let increments = u128::from(place.increments) + u128::from(increment);
+    if u128::from(initial) + increments > 0x7fff_ffff + u128::from(sent(place.stage)) {
+        return Err(ErrorCode::FlowControlError);
+    }
+    Ok(Met::Stays(Place {
+        increments: increments as u64,
+        ..place
+    }))
+}
+
 // The table of states and arrivals.
-fn meet(place: Place, initial: u32, arrival: Arrival, body: &[u8]) -> Met
+fn meet(place: Place, initial: u32, arrival: Arrival, body: &[u8]) -> Result<Met, ErrorCode>
     ensures { result ≡ met place place.stage initial arrival body.now }
 {
     match (place.stage, arrival) {
@@ -100,48 +96,47 @@ fn meet(place: Place, initial: u32, arrival: Arrival, body: &[u8]) -> Met
                 end_stream: true,
                 colons: false,
             },
-        ) => Met::Ends(place),
-        (Stage::Receiving(_), Arrival::Trailers { .. }) => Met::Fails(ErrorCode::ProtocolError),
+        ) => Ok(Met::Ends(place)),
+        (Stage::Receiving(_), Arrival::Trailers { .. }) => Err(ErrorCode::ProtocolError),
         (
             Stage::Waiting(_) | Stage::Claimed | Stage::Sending(_),
             Arrival::Data { .. } | Arrival::Trailers { .. },
-        ) => Met::Fails(ErrorCode::StreamClosed),
+        ) => Err(ErrorCode::StreamClosed),
         (_, Arrival::Credit(increment)) => credit(place, initial, increment),
-        (_, Arrival::Reset) => Met::Leaves,
+        (_, Arrival::Reset) => Ok(Met::Leaves),
     }
 }
 
 // The place afterwards, and what is left to do.
-fn keep(streams: &mut Streams, k: usize, stream: u32, met: Met) -> Next
-    ensures { (result, streams.new) ≡ kept streams.old k stream met }
+fn keep(streams: &mut Streams, k: usize, met: Met) -> Next
+    ensures { (result, streams.new) ≡ kept streams.old k met }
 {
-    match met {
-        Met::Stays(place) => {
-            put(&mut streams.places, k, Some(place));
-            Next::Done
-        }
-        Met::Ends(place) => {
-            put(&mut streams.places, k, Some(place));
-            Next::Ends(k)
-        }
-        Met::Leaves => {
-            put(&mut streams.places, k, None);
-            Next::Done
-        }
-        Met::Fails(code) => Next::stream_fault(code, stream),
-    }
+    let (slot, next) = match met {
+        Met::Stays(place) => (Some(place), Next::Done),
+        Met::Ends(place) => (Some(place), Next::Ends(k)),
+        Met::Leaves => (None, Next::Done),
+    };
+    put(&mut streams.places, k, slot);
+    next
 }
 
 // What comes for a stream that has left is dropped. `body` is empty but for DATA.
-pub fn arrive(streams: &mut Streams, stream: u32, arrival: Arrival, body: &[u8]) -> Next
+pub fn arrive(
+    streams: &mut Streams,
+    stream: u32,
+    arrival: Arrival,
+    body: &[u8],
+) -> Result<Next, Fault>
     ensures { (result, streams.new) ≡ arrived streams.old stream arrival body.now }
 {
     let Some(k) = place_of(&streams.places, stream) else {
-        return Next::Done;
+        return Ok(Next::Done);
     };
     let Some(place) = slot_at(&streams.places, k) else {
-        return Next::Done;
+        return Ok(Next::Done);
     };
-    let met = meet(place, streams.initial, arrival, body);
-    keep(streams, k, stream, met)
+    let met = meet(place, streams.initial, arrival, body).map_err(|code| Fault::stream(
+        code, stream,
+    ))?;
+    Ok(keep(streams, k, met))
 }

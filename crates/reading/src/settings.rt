@@ -5,7 +5,7 @@ ghost use Rattle.reading.specs.Settings.{settled_by, all_settled, settings_read}
 
 use crate::next::Next;
 use frames::code::ErrorCode;
-use frames::fault::{Fault, Scope};
+use frames::fault::Fault;
 use frames::settings::{Setting, SettingName, SettingsList};
 use state::place::Place;
 use state::queue::Reply;
@@ -27,31 +27,25 @@ fn settle_one(
 ) -> Result<Settled, Fault>
     ensures { result ≡ settled_by places.now settled setting }
 {
-    if let Some(fault) = setting.fault() {
-        return Err(fault);
-    }
+    setting.check()?;
     match setting.name {
         SettingName::HeaderTableSize => Ok(Settled {
-            initial: settled.initial,
             shrink: settled.shrink | (setting.value < 4096),
+            ..settled
         }),
-        SettingName::InitialWindowSize => {
-            if any_overflows(places, setting.value) {
-                return Err(Fault {
-                    scope: Scope::Connection,
-                    code: ErrorCode::FlowControlError,
-                    place: 0,
-                });
-            }
-            Ok(Settled {
-                initial: setting.value,
-                shrink: settled.shrink,
-            })
-        }
+        SettingName::InitialWindowSize if any_overflows(places, setting.value) => Err(
+            Fault::connection(ErrorCode::FlowControlError, 0),
+        ),
+        SettingName::InitialWindowSize => Ok(Settled {
+            initial: setting.value,
+            ..settled
+        }),
         _ => Ok(settled),
     }
 }
 
+// The pairs, one by one.
+#[tactic(auto, unfolding(crate::specs::Settings::all_settled))]
 fn settle(
     places: &[Option<Place>; 16],
     before: Settled,
@@ -60,31 +54,22 @@ fn settle(
     ensures { result ≡ all_settled places.now before (pairs list.entry.octets.now) }
 {
     let mut settled = before;
-    let mut rest = list;
-    while let Some((setting, behind)) = rest.split_first() {
-        match settle_one(places, settled, setting) {
-            Ok(next) => settled = next,
-            Err(fault) => return Err(fault),
-        }
-        rest = behind;
+    for setting in list.iter() {
+        settled = settle_one(places, settled, setting)?;
     }
     Ok(settled)
 }
 
 // All pairs; the ACK is queued.
-pub fn read_settings(streams: &mut Streams, list: SettingsList<'_>) -> Next
+pub fn read_settings(streams: &mut Streams, list: SettingsList<'_>) -> Result<Next, Fault>
     ensures { (result, streams.new) ≡ settings_read streams.old list.entry.octets.now }
 {
     let before = Settled {
         initial: streams.initial,
         shrink: streams.shrink,
     };
-    match settle(&streams.places, before, list) {
-        Err(fault) => Next::Fails(fault),
-        Ok(settled) => {
-            streams.initial = settled.initial;
-            streams.shrink = settled.shrink;
-            Next::Replies(Reply::SettingsAck)
-        }
-    }
+    let settled = settle(&streams.places, before, list)?;
+    streams.initial = settled.initial;
+    streams.shrink = settled.shrink;
+    Ok(Next::Replies(Reply::SettingsAck))
 }

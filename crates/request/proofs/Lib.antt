@@ -1,7 +1,4 @@
 pub mod Laws
-mod Rows
-mod Letters
-mod Splits
 mod Pushes
 mod Summing
-mod Capped
+mod Spelled

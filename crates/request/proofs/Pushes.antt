@@ -1,72 +1,50 @@
 -- What a list of fields says, as one more field comes behind it.
 use Rattle.std.proofs.Common.{◌≡◌, ℕ, Bool, true, false, cond, ◌||◌, List, [], ◌∷◌, ◌++◌, Some, None, Option, sym, refl, ap, ◌∙◌, append_assoc, append-nil}
+use Rattle.std.proofs.Math.Bool.{or-false}
+use Rattle.std.proofs.lemmas.Grind.{flat_map-append}
+use Rattle.std.proofs.lemmas.List.Folds.{list_any-append}
+use Rattle.std.proofs.lemmas.List.Sums.{fold-append}
+use Rattle.std.specs.Option.{option_or}
 use Rattle.tables.specs.StaticTable.{Field}
-use Rattle.request.specs.declared.heard.Malformed.{Malformed}
 use Rattle.request.specs.declared.kind.Kind.{Kind}
 use Rattle.request.specs.declared.kind.Kind.TheVariants.{Priority}
-use Rattle.request.specs.declared.priority.Priority.{Priority as PriorityType}
 use Rattle.request.specs.Kinds.{kind_of, same_kind}
 use Rattle.request.specs.Priorities.{member_told, members_told, split_at_commas, start_priority}
-use Rattle.request.specs.Requests.{any_kind, breach_behind, breach_from, earlier, members_of, priority_of, value_of}
+use Rattle.request.specs.Requests.{any_kind, breach_behind, breach_from, members_in, members_of, priority_of, value_of}
 
-or_assoc : (a b c : Bool) → (a || (b || c)) ≡ (a || b || c)
-or_assoc true b c = refl
-or_assoc false b c = refl
+option_or-none : {A : Type 0} (a : Option A) → option_or a None ≡ a
+option_or-none (Some x) = refl
+option_or-none None = refl
 
-or_false : (a : Bool) → (a || false) ≡ a
-or_false true = refl
-or_false false = refl
+option_or_assoc : {A : Type 0} (a b c : Option A) → option_or a (option_or b c) ≡ option_or (option_or a b) c
+option_or_assoc (Some x) b c = refl
+option_or_assoc None b c = refl
 
-earlier_none : (a : Option Malformed) → earlier a None ≡ a
-earlier_none (Some w) = refl
-earlier_none None = refl
-
-earlier_assoc : (a b c : Option Malformed) → earlier a (earlier b c) ≡ earlier (earlier a b) c
-earlier_assoc (Some w) b c = refl
-earlier_assoc None b c = refl
-
-folded-append : (p : PriorityType) (ms ns : List (List ℕ)) → members_told p (ms ++ ns) ≡ members_told (members_told p ms) ns
-folded-append p [] ns = refl
-folded-append p (m ∷ ms) ns = folded-append (member_told p m) ms ns
+pub ap-cond : {A B : Type 0} (g : A → B) (b : Bool) (x y : A) → g (cond b x y) ≡ cond b (g x) (g y)
+ap-cond g true x y = refl
+ap-cond g false x y = refl
 
 module _ (f : Field) where
-  value-behind : (b : Bool) (o p : Option (List ℕ)) → elim (cond b (Some f.1) o) [ Some v ↦ Some v | None ↦ p ] ≡ cond b (Some f.1) (elim o [ Some v ↦ Some v | None ↦ p ])
-  value-behind true o p = refl
-  value-behind false o p = refl
-
   pub value-push : (k : Kind) (fs : List Field) → value_of k (fs ++ (f ∷ [])) ≡ cond (same_kind (kind_of f.0) k) (Some f.1) (value_of k fs)
   value-push k [] = refl
   value-push k (g ∷ fs) =
       let p : Option (List ℕ) = cond (same_kind (kind_of g.0) k) (Some g.1) None in
-      ap (λ (o : Option (List ℕ)). elim o [ Some v ↦ Some v | None ↦ p ]) (value-push k fs) ∙ value-behind (same_kind (kind_of f.0) k) (value_of k fs) p
+      ap (λ (o : Option (List ℕ)). option_or o p) (value-push k fs) ∙ ap-cond (λ (o : Option (List ℕ)). option_or o p) (same_kind (kind_of f.0) k) (Some f.1) (value_of k fs)
 
   pub any_push : (test : Kind → Bool) (fs : List Field) → any_kind test (fs ++ (f ∷ [])) ≡ (any_kind test fs || test (kind_of f.0))
-  any_push test [] = or_false (test (kind_of f.0))
-  any_push test (g ∷ fs) =
-      ap (λ (b : Bool). test (kind_of g.0) || b) (any_push test fs) ∙ or_assoc (test (kind_of g.0)) (any_kind test fs) (test (kind_of f.0))
-
-  abbrev told : List (List ℕ)
-  told = cond (same_kind (kind_of f.0) Priority) (split_at_commas f.1) []
-
-  members-push : (fs : List Field) → members_of (fs ++ (f ∷ [])) ≡ members_of fs ++ told
-  members-push [] = append-nil told
-  members-push (g ∷ fs) =
-      let ms : List (List ℕ) = cond (same_kind (kind_of g.0) Priority) (split_at_commas g.1) [] in
-      ap (λ (l : List (List ℕ)). ms ++ l) (members-push fs) ∙ sym (append_assoc ms (members_of fs) told)
-
-  told-if : (b : Bool) (p : PriorityType) (ms : List (List ℕ)) → members_told p (cond b ms []) ≡ cond b (members_told p ms) p
-  told-if true p ms = refl
-  told-if false p ms = refl
+  any_push test fs =
+      list_any-append (λ g. test (kind_of g.0)) fs (f ∷ []) ∙ ap (λ (b : Bool). any_kind test fs || b) (or-false (test (kind_of f.0)))
 
   pub priority-push : (fs : List Field) → priority_of (fs ++ (f ∷ [])) ≡ cond (same_kind (kind_of f.0) Priority) (members_told (priority_of fs) (split_at_commas f.1)) (priority_of fs)
   priority-push fs =
-      ap (members_told start_priority) (members-push fs)
-      ∙ folded-append start_priority (members_of fs) told
-      ∙ told-if (same_kind (kind_of f.0) Priority) (priority_of fs) (split_at_commas f.1)
+      ap (members_told start_priority) (flat_map-append members_in fs (f ∷ []))
+      ∙ fold-append member_told start_priority (members_of fs) (members_in f ++ [])
+      ∙ ap (members_told (priority_of fs)) (append-nil (members_in f))
+      ∙ ap-cond (members_told (priority_of fs)) (same_kind (kind_of f.0) Priority) (split_at_commas f.1) []
 
-  pub breach-push : (before fs : List Field) → breach_from before (fs ++ (f ∷ [])) ≡ earlier (breach_from before fs) (breach_behind (before ++ fs) f)
-  breach-push before [] = earlier_none (breach_behind before f) ∙ ap (λ (l : List Field). breach_behind l f) (sym (append-nil before))
+  pub breach-push : (before fs : List Field) → breach_from before (fs ++ (f ∷ [])) ≡ option_or (breach_from before fs) (breach_behind (before ++ fs) f)
+  breach-push before [] = option_or-none (breach_behind before f) ∙ ap (λ (l : List Field). breach_behind l f) (sym (append-nil before))
   breach-push before (g ∷ fs) =
-      ap (earlier (breach_behind before g)) (breach-push (before ++ (g ∷ [])) fs)
-      ∙ earlier_assoc (breach_behind before g) (breach_from (before ++ (g ∷ [])) fs) (breach_behind (before ++ (g ∷ []) ++ fs) f)
-      ∙ ap (λ (l : List Field). earlier (breach_from before (g ∷ fs)) (breach_behind l f)) (append_assoc before (g ∷ []) fs)
+      ap (option_or (breach_behind before g)) (breach-push (before ++ (g ∷ [])) fs)
+      ∙ option_or_assoc (breach_behind before g) (breach_from (before ++ (g ∷ [])) fs) (breach_behind (before ++ (g ∷ []) ++ fs) f)
+      ∙ ap (λ (l : List Field). option_or (breach_from before (g ∷ fs)) (breach_behind l f)) (append_assoc before (g ∷ []) fs)

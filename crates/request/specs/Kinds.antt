@@ -1,9 +1,8 @@
 -- What a field is by its name: one of the four that a request may have with a colon, another name with a colon, or a plain name.
-use Rattle.std.specs.Prelude.{ℕ, Bool, true, false, cond, not, List, codes, ◌==◌}
+use Rattle.std.specs.Prelude.{ℕ, Bool, true, false, cond, not, List, [], ◌∷◌, codes, ◌==◌}
 use Rattle.std.specs.Str.{bytes_eq}
 use Rattle.request.specs.declared.kind.Kind.{Kind}
 use Rattle.request.specs.declared.kind.Kind.TheVariants.{Method, Scheme, Path, Authority, OtherColon, Priority, OtherPlain}
-use Rattle.request.specs.Texts.{begun}
 
 abbrev pub colon_kind : List ℕ → Kind
 colon_kind n =
@@ -14,6 +13,11 @@ colon_kind n =
 
 abbrev pub plain_kind : List ℕ → Kind
 plain_kind n = cond (bytes_eq n (codes "priority")) Priority OtherPlain
+
+-- Whether a name begins with a colon.
+abbrev pub begun : List ℕ → Bool
+begun [] = false
+begun (c ∷ cs) = c == 58
 
 abbrev pub kind_of : List ℕ → Kind
 kind_of n = cond (begun n) (colon_kind n) (plain_kind n)

@@ -1,6 +1,6 @@
 -- The priority field (RFC 9218): a list whose members are split at commas, of which a few say something.
-use Rattle.std.specs.Prelude.{ℕ, ◌-◌, Bool, true, false, cond, not, ◌||◌, List, [], ◌∷◌, length, take, drop, Some, None, codes, fold, Option, ◌==◌}
-use Rattle.std.specs.List.{prefix_len, suffix_len}
+use Rattle.std.specs.Prelude.{ℕ, ◌-◌, Bool, true, false, cond, ◌||◌, List, length, take, drop, Some, None, codes, fold, Option, ◌==◌}
+use Rattle.std.specs.List.{prefix_len, slice_split, suffix_len}
 use Rattle.std.specs.Str.{bytes_eq}
 use Rattle.request.specs.declared.priority.Urgency.{Urgency}
 use Rattle.request.specs.declared.priority.Urgency.TheVariants.{U0, U1, U2, U3, U4, U5, U6, U7}
@@ -29,17 +29,9 @@ with_incremental p i = record { urgency = p.urgency; incremental = i }
 abbrev pub is_comma : ℕ → Bool
 is_comma c = c == 44
 
-abbrev pub is_other : ℕ → Bool
-is_other c = not (is_comma c)
-
 -- A comma always splits, also inside of quotes; two commas have an empty member between them.
-abbrev pub prefixed : ℕ → List (List ℕ) → List (List ℕ)
-prefixed c [] = (c ∷ []) ∷ []
-prefixed c (m ∷ ms) = (c ∷ m) ∷ ms
-
 abbrev pub split_at_commas : List ℕ → List (List ℕ)
-split_at_commas [] = [] ∷ []
-split_at_commas (c ∷ cs) = cond (is_comma c) ([] ∷ split_at_commas cs) (prefixed c (split_at_commas cs))
+split_at_commas cs = slice_split is_comma cs
 
 -- Spaces and tabs.
 abbrev pub is_blank : ℕ → Bool

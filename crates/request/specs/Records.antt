@@ -1,6 +1,8 @@
 -- The book's records.
-use Rattle.std.specs.Prelude.{ℕ, min, Bool, true, false, cond, ◌&&◌, List, length, replicate, nat_le, nat_lt, slice_set}
+use Rattle.std.specs.Prelude.{ℕ, min, cond, List, length, replicate, nat_le, nat_lt, slice_set, Ok, Err, Result}
 use Rattle.request.specs.declared.record.Record.{Record}
+use Rattle.request.specs.declared.record.Unrecorded.{Unrecorded}
+use Rattle.request.specs.declared.record.Unrecorded.TheVariants.{NoSpace, TooLong}
 use Rattle.request.specs.Texts.{padded}
 
 -- The stream, the length of the body, and the body with zeros behind it to 256 octets.
@@ -14,7 +16,8 @@ blank_record = record { stream = 0; length = 0; body = replicate 256 0 }
 abbrev pub space : List Record → ℕ
 space book = min (length book) 65535
 
--- The record is written where the book has space and the body is no longer than a record's; else the book stays.
-abbrev pub record_written : List Record → ℕ → ℕ → List ℕ → Bool × List Record
+-- The record is written where the book has space and the body is no longer than a record's; else the book stays. Space is
+-- asked first.
+abbrev pub record_written : List Record → ℕ → ℕ → List ℕ → Result (Unit {0}) Unrecorded × List Record
 record_written book n s b =
-    cond (nat_lt n (space book) && nat_le (length b) 256) (true, slice_set book n (record_of s b)) (false, book)
+    cond (nat_lt n (space book)) (cond (nat_le (length b) 256) (Ok tt, slice_set book n (record_of s b)) (Err TooLong, book)) (Err NoSpace, book)

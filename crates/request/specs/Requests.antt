@@ -1,5 +1,7 @@
 -- Requests: what is malformed, and what the fields of a block say.
-use Rattle.std.specs.Prelude.{ℕ, Bool, true, false, cond, ◌||◌, List, [], ◌∷◌, ◌++◌, Some, None, Ok, Err, Option, Result}
+use Rattle.std.specs.Prelude.{ℕ, Bool, cond, List, [], ◌∷◌, ◌++◌, Some, None, Ok, Err, is_some, Option, Result}
+use Rattle.std.specs.List.{flat_map, list_any}
+use Rattle.std.specs.Option.{option_map, option_or}
 use Rattle.tables.specs.StaticTable.{Field}
 use Rattle.tables.specs.DynamicTable.{Dynamic}
 use Rattle.hpack.specs.Decoding.{Outcome, decode_list}
@@ -21,20 +23,11 @@ use Rattle.request.specs.Texts.{has_upper}
 -- The value of a kind of field, the last where there are several: of a colon name a request that is not malformed has one.
 abbrev pub value_of : Kind → List Field → Option (List ℕ)
 value_of k [] = None
-value_of k (f ∷ fs) = elim (value_of k fs) [ Some v ↦ Some v | None ↦ cond (same_kind (kind_of f.0) k) (Some f.1) None ]
-
-abbrev pub is_there : {A : Type 0} → Option A → Bool
-is_there None = false
-is_there (Some a) = true
-
-abbrev pub mapped : {A B : Type 0} → (A → B) → Option A → Option B
-mapped g None = None
-mapped g (Some a) = Some (g a)
+value_of k (f ∷ fs) = option_or (value_of k fs) (cond (same_kind (kind_of f.0) k) (Some f.1) None)
 
 -- Whether a field is of a kind that passes a test.
 abbrev pub any_kind : (Kind → Bool) → List Field → Bool
-any_kind test [] = false
-any_kind test (f ∷ fs) = test (kind_of f.0) || any_kind test fs
+any_kind test fs = list_any (λ f. test (kind_of f.0)) fs
 
 abbrev pub has_plain : List Field → Bool
 has_plain fs = any_kind is_plain fs
@@ -63,27 +56,24 @@ name_breach n again late = cond (has_upper n) (Some UpperCase) (kind_breach (kin
 
 -- The breach of a field behind those that came before it.
 abbrev pub breach_behind : List Field → Field → Option Malformed
-breach_behind before f = name_breach f.0 (is_there (value_of (kind_of f.0) before)) (has_plain before)
-
--- The first of two breaches.
-abbrev pub earlier : Option Malformed → Option Malformed → Option Malformed
-earlier (Some w) next = Some w
-earlier None next = next
+breach_behind before f = name_breach f.0 (is_some (value_of (kind_of f.0) before)) (has_plain before)
 
 -- The first breach of the fields in their order.
 abbrev pub breach_from : List Field → List Field → Option Malformed
 breach_from before [] = None
-breach_from before (f ∷ fs) = earlier (breach_behind before f) (breach_from (before ++ (f ∷ [])) fs)
+breach_from before (f ∷ fs) = option_or (breach_behind before f) (breach_from (before ++ (f ∷ [])) fs)
 
 abbrev pub breach_of : List Field → Option Malformed
 breach_of fs = breach_from [] fs
 
 -- What fields say
 
+abbrev pub members_in : Field → List (List ℕ)
+members_in f = cond (same_kind (kind_of f.0) Priority) (split_at_commas f.1) []
+
 -- All priority fields are one list of members, in their order.
 abbrev pub members_of : List Field → List (List ℕ)
-members_of [] = []
-members_of (f ∷ fs) = cond (same_kind (kind_of f.0) Priority) (split_at_commas f.1) [] ++ members_of fs
+members_of fs = flat_map members_in fs
 
 abbrev pub priority_of : List Field → PriorityType
 priority_of fs = members_told start_priority (members_of fs)
@@ -104,7 +94,7 @@ judged None h = h
 abbrev pub request_of : List Field → Result Head Malformed
 request_of fs =
     judged (breach_of fs)
-    (head_of (mapped method_of (value_of Method fs)) (is_there (value_of Scheme fs)) (mapped path_of (value_of Path fs)) (priority_of fs))
+    (head_of (option_map method_of (value_of Method fs)) (is_some (value_of Scheme fs)) (option_map path_of (value_of Path fs)) (priority_of fs))
 
 abbrev pub heard_of : List Field → Heard
 heard_of fs = record { first = request_of fs; colons = has_colon fs }

@@ -1,6 +1,5 @@
 // A field block, read as a request or as trailers.
 ghost use Rattle.std.specs.Prelude.{◌≡◌, ◌<◌, length, IfErr};
-ghost use Rattle.tables.specs.Tables.{table_of};
 ghost use Rattle.request.specs.Requests.{block_read};
 
 use crate::heard::Heard;
@@ -10,12 +9,10 @@ use tables::table::Table;
 
 // Reads a whole block, or answers the place of its fault; the table goes on in both cases.
 pub fn read_block(table: &mut Table, block: &[u8]) -> Result<Heard, usize>
-    ensures value { (result, table_of table.new) ≡ block_read (table_of table.old) block.now }
+    ensures value { (result, table.new) ≡ block_read table.old block.now }
     ensures bound { IfErr result (λ p. p < length block.now) }
 {
     let mut summary = Summary::new();
-    match decode(table, block, &mut summary) {
-        Ok(()) => Ok(summary.heard()),
-        Err(place) => Err(place),
-    }
+    decode(table, block, &mut summary)?;
+    Ok(summary.heard())
 }

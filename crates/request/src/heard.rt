@@ -4,7 +4,7 @@ use crate::path::Path;
 use crate::priority::Priority;
 
 // What the first block of a request says of it.
-#[derive(Clone, Copy)]
+#[derive(Clone, Copy, Debug, PartialEq, Eq)]
 pub struct Head {
     pub method: Method,
     pub path: Path,
@@ -12,7 +12,7 @@ pub struct Head {
 }
 
 // Why a request is malformed; nothing else makes one so.
-#[derive(Clone, Copy)]
+#[derive(Clone, Copy, Debug, PartialEq, Eq)]
 pub enum Malformed {
     // An upper-case letter in a name.
     UpperCase,
@@ -29,7 +29,7 @@ pub enum Malformed {
 }
 
 // A block is the first of its stream, or the trailers of a request: the stream's place decides that, later.
-#[derive(Clone, Copy)]
+#[derive(Clone, Copy, Debug, PartialEq, Eq)]
 pub struct Heard {
     // The block as the first one.
     pub first: Result<Head, Malformed>,

@@ -5,24 +5,21 @@
 mod tests {
     use request::block::read_block;
     use request::heard::{Head, Malformed};
-    use request::record::{Record, write_record};
+    use request::record::{Record, Unrecorded, write_record};
     use request::route::Route;
     use tables::table::Table;
 
     // What a block says as the first of a request, if it can be decoded.
     fn first(block: &[u8]) -> Option<Result<Head, Malformed>> {
         let mut table = Table::new();
-        match read_block(&mut table, block) {
-            Ok(heard) => Some(heard.first),
-            Err(_) => None,
-        }
+        read_block(&mut table, block).ok().map(|heard| heard.first)
     }
 
-    // Ten times the urgency, and 1 more for incremental; 99 for what is no request.
+    // Ten times the urgency, and 1 more for incremental; 99 for what is no request: a test then names one number.
     fn priority(block: &[u8]) -> u8 {
         match first(block) {
             Some(Ok(head)) => {
-                head.priority.urgency.number() * 10 + u8::from(head.priority.incremental)
+                u8::from(head.priority.urgency) * 10 + u8::from(head.priority.incremental)
             }
             _ => 99,
         }
@@ -121,11 +118,12 @@ mod tests {
         assert!(rt; matches!(late, Ok(heard) if heard.colons));
     }
 
-    // The status of an answer that is known, 200 where the site is asked, 1 for the book, 0 for what is no request.
+    // The status of an answer that is known, 200 where the site is asked, 1 for the book, 0 for what is no request: a
+    // number, since most are statuses.
     fn way(block: &[u8]) -> u16 {
         match first(block) {
             Some(Ok(head)) => match Route::of(head.method, &head.path) {
-                Route::Answer(status) => status.number(),
+                Route::Answer(status) => u16::from(status),
                 Route::Open => 200,
                 Route::Record => 1,
             },
@@ -155,14 +153,20 @@ mod tests {
     #[test]
     fn a_record_is_written_with_zeros_behind_its_body(rt: HostRuntime) {
         let mut book = [Record::blank(); 2];
-        assert!(rt; write_record(&mut book, 1, 5, b"stop 17"));
+        assert_eq!(rt; write_record(&mut book, 1, 5, b"stop 17"), Ok(()));
         assert_eq!(rt; book[0].stream, 0);
         assert_eq!(rt; book[1].stream, 5);
         assert_eq!(rt; book[1].length, 7);
         assert_eq!(rt; book[1].body[6], b'7');
         assert_eq!(rt; book[1].body[7], 0);
-        assert!(rt; !write_record(&mut book, 2, 7, b""));
-        assert!(rt; !write_record(&mut book, 0, 7, &[1; 257]));
+        assert_eq!(rt;
+            write_record(&mut book, 2, 7, b""),
+            Err(Unrecorded::NoSpace)
+        );
+        assert_eq!(rt;
+            write_record(&mut book, 0, 7, &[1; 257]),
+            Err(Unrecorded::TooLong)
+        );
         assert_eq!(rt; book[0].stream, 0);
     }
 }

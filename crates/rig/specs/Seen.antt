@@ -1,9 +1,9 @@
 -- The highest stream that a client has opened.
-use Rattle.std.specs.Prelude.{ℕ, max}
+use Rattle.std.specs.Prelude.{ℕ, max, Ok, Err, Result}
+use Rattle.frames.specs.declared.cut.Unread.{Unread}
 use Rattle.frames.specs.declared.frame.Frame.{Frame}
 use Rattle.frames.specs.declared.frame.Frame.TheVariants as frame
-use Rattle.wire.specs.declared.read.Reading.{Reading}
-use Rattle.wire.specs.declared.read.Reading.TheVariants as reading
+use Rattle.wire.specs.declared.read.Read.{Read}
 
 -- only HEADERS opens a stream
 abbrev pub opened : ℕ → Frame → ℕ
@@ -20,8 +20,7 @@ opened seen (frame.WindowUpdate s n) = seen
 opened seen (frame.Continuation s f h) = seen
 opened seen (frame.Unknown k s) = seen
 
--- a frame that is not read changes nothing
-abbrev pub seen_after : ℕ → Reading → ℕ
-seen_after seen (reading.Frame f n) = opened seen f
-seen_after seen (reading.Refused r) = seen
-seen_after seen (reading.Faulty f) = seen
+-- after octets were read: what is refused or at fault changes nothing
+abbrev pub seen_after : ℕ → Result Read Unread → ℕ
+seen_after seen (Ok read) = opened seen read.frame
+seen_after seen (Err unread) = seen

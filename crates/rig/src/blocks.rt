@@ -1,12 +1,13 @@
-// Field blocks in words: fields as they are handed on, and the table after them.
+// Field blocks in words: fields as they are handed on.
 ghost use Rattle.std.specs.Prelude.{◌≡◌};
 
+use crate::output::Output;
 use hpack::decode::Fold;
 use std::cell::Cell;
 use std::fmt;
-use tables::table::Table;
 
-// Octets as text; what is no printable ASCII character, or a backslash, is `\xNN`.
+// Octets as text; what is no printable ASCII character, or a backslash, is `\xNN`. (The RFC's examples print each octet
+// as its character instead.)
 #[derive(Clone, Copy)]
 pub struct Text<'a>(pub &'a [u8]);
 
@@ -23,46 +24,26 @@ impl fmt::Display for Text<'_> {
     }
 }
 
-// Prints each field of a block as it is handed on; a print that fails is kept in mind.
+// Prints each field of a block as it is handed on. A field has no answer to give back, so a print that fails is kept in
+// mind.
 #[derive(Drop)]
-pub struct Printer<'a> {
-    pub rt: &'a HostRuntime,
-    pub line: usize,
+pub struct Printer<'r> {
+    pub output: Output<'r>,
     pub failed: Cell<bool>,
 }
 
 // The fold has nothing to remember: what is printed is outside.
-impl<'a> Fold for Printer<'a> {
+impl<'r> Fold for Printer<'r> {
     ghost step = { λ p _ _. p };
 
     fn field(&mut self, name: &[u8], value: &[u8])
         ensures { self.new ≡ self.old }
     {
-        let line = self.line;
-        if println!(self.rt; "{line} field {}: {}", Text(name), Text(value)).is_err() {
+        let told = self
+            .output
+            .tell(format_args!("field {}: {}", Text(name), Text(value)));
+        if told.is_err() {
             self.failed.set(true);
         }
-    }
-}
-
-// The entries of a table, the newest first, each with its index; then what all cost.
-#[derive(Clone, Copy)]
-pub struct ShownTable<'a> {
-    pub table: &'a Table,
-    pub line: usize,
-}
-
-impl fmt::Display for ShownTable<'_> {
-    fn fmt<W: fmt::Write>(&self, f: &mut fmt::Formatter<W>) -> fmt::Result {
-        let line = self.line;
-        for place in 0..128usize {
-            let Some((name, value)) = self.table.entry(place) else {
-                break;
-            };
-            let index = place + 62;
-            writeln!(f, "{line} table {index} {}: {}", Text(name), Text(value))?;
-        }
-        let size = self.table.size();
-        write!(f, "{line} table size {size}")
     }
 }

@@ -3,39 +3,36 @@
 
 mod blocks;
 mod fetching;
+mod output;
 mod picking;
 mod player;
+mod stop;
 mod tally;
 mod words;
 
 use anyhow::anyhow;
-use player::{Player, play};
+use output::Output;
+use player::Player;
 use std::process::ExitCode;
 use std::{env, fs, io};
 
 // The script: the file that the first argument names, else standard input.
 fn script_text(rt: &HostRuntime) -> anyhow::Result<String> {
-    let mut words = env::args(rt)?;
-    let _program = words.next();
-    let Some(path) = words.next() else {
+    let Some(path) = env::args(rt)?.nth(1) else {
         return Ok(io::read_to_string(rt.alloc(), rt.stdin())?);
     };
-    match fs::read_to_string(rt, path.as_str()) {
-        Ok(text) => Ok(text),
-        Err(error) => Err(anyhow!(format!(in rt.alloc(); "{path}: {error}")?)),
-    }
+    fs::read_to_string(rt, path.as_str()).map_err(|error| anyhow!("{path}: {error}"))
 }
 
 // Plays the script line by line; an error names its line.
 fn run(rt: &HostRuntime) -> anyhow::Result<()> {
     let text = script_text(rt)?;
     let mut player = Player::new();
-    let mut number = 0usize;
-    for line in text.lines() {
-        number = number.saturating_add(1);
-        if let Err(stop) = play(rt, number, line, &mut player) {
-            return Err(anyhow!(format!(in rt.alloc(); "line {number}: {stop}")?));
-        }
+    for (index, text) in text.lines().enumerate() {
+        let line = index + 1;
+        player
+            .play(Output { rt, line }, text)
+            .map_err(|stop| anyhow!("line {line}: {stop}"))?;
     }
     Ok(())
 }

@@ -1,46 +1,71 @@
 // Plays the lines of a script, one after the other.
-ghost use Rattle.std.specs.Prelude.{◌≡◌, ◌≤◌, IfOk};
+ghost use Rattle.std.specs.Prelude.{◌≡◌, ◌≤◌};
 ghost use Rattle.rig.specs.Seen.{seen_after};
 
-use crate::blocks::{Printer, ShownTable};
-use crate::fetching::{in_line_test, in_shelf};
-use crate::picking::{picked, share_of};
-use crate::words::{Found, Took};
+use crate::blocks::{Printer, Text};
+use crate::fetching::fetched;
+use crate::output::Output;
+use crate::picking::Contest;
+use crate::stop::Stop;
+use crate::words::{About, Found, Mark, Said};
+use frames::cut::Unread;
 use frames::frame::Frame;
 use frames::header::Header;
 use hpack::decode::decode;
 use policies::policy::Policy;
 use scheduler::drr::Drr;
 use scheduler::meaning::Scheduler as _;
+use scheduler::offer::Offer;
 use scheduler::pick::Pick;
 use scheduler::urgency::Urgency;
-use script::hex::octets;
-use script::line::{Base, Call, Line, Offers, Scheduler, Setting, read_line};
-use script::offer::Offered;
+use script::line::{Base, Call, Layers, Line, Setting, Site, read_line};
+use script::name::Scheduler;
+use script::octets::octets;
 use script::problem::Problem;
+use std::alloc::Global;
 use std::cell::Cell;
-use std::{fmt, io};
+use std::io;
 use tables::table::Table;
-use wire::read::{Reading, read_frame};
+use wire::read::{Read, read_frame};
 
-// What the site of a script stands on: the line test, or a shelf's octets.
-#[derive(Drop)]
-pub enum Ground {
-    LineTest,
-    Shelf(Vec<u8>),
-}
-
-// What lasts from line to line: the highest stream of the HEADERS so far, whether a call was made, the scheduler and what
-// it is offered, the site, and the table of field blocks.
+// What lasts from line to line: the highest stream of the HEADERS so far, whether a call was made, the scheduler and
+// what it is offered, the site, and the table of field blocks.
 #[derive(Drop)]
 pub struct Player {
     pub seen: u32,
     pub begun: bool,
-    pub policy: Policy,
-    pub offers: Offers,
-    pub slices: u8,
-    pub ground: Ground,
+    pub contest: Contest,
+    pub site: Site<Vec<u8>>,
     pub table: Table,
+}
+
+// The highest stream seen after octets were read: a frame of HEADERS raises it, and what is not read changes nothing.
+fn noted(seen: u32, read: Result<Read<'_>, Unread>) -> u32
+    ensures { result ≡ seen_after seen read.entry }
+{
+    match read {
+        Ok(
+            Read {
+                frame: Frame::Headers { stream, .. },
+                ..
+            },
+        ) => seen.max(stream),
+        _ => seen,
+    }
+}
+
+// Prints what a run of picks gave to each place that offers.
+fn shares(output: Output<'_>, contest: &Contest, picks: &[Pick], lag: u64) -> io::Result<()> {
+    let offering = contest
+        .offers
+        .iter()
+        .enumerate()
+        .filter(|(_, offer)| offer.has_octets());
+    for (place, _) in offering {
+        let share = contest.share(picks, place);
+        output.tell(format_args!("share {share} lag {lag}"))?;
+    }
+    Ok(())
 }
 
 impl Player {
@@ -48,231 +73,167 @@ impl Player {
     pub fn new() -> Player
         ensures { result.seen ≡ 0 }
     {
-        let nothing = Offered {
-            octets: 0,
-            urgency: 0,
-            incremental: false,
-            stream: 0,
-        };
         Player {
             seen: 0,
             begun: false,
-            policy: Policy::RoundRobin(Drr::new()),
-            offers: [nothing; 16],
-            slices: 0,
-            ground: Ground::LineTest,
+            contest: Contest {
+                policy: Policy::RoundRobin(Drr::new()),
+                offers: [Offer::nothing(); 16],
+            },
+            site: Site {
+                layers: Layers::Zero,
+                base: Base::LineTest,
+            },
             table: Table::new(),
         }
     }
-}
 
-// A frame of HEADERS raises the highest stream seen.
-fn noted(seen: u32, reading: Reading<'_>) -> u32
-    ensures { result ≡ seen_after seen reading.entry }
-{
-    match reading {
-        Reading::Frame {
-            frame: Frame::Headers { stream, .. },
-            ..
-        } => seen.max(stream),
-        _ => seen,
-    }
-}
-
-// Why a script ends early.
-#[derive(Drop)]
-pub enum Stop<'a> {
-    Script(Problem<'a>),
-    Output(io::Error),
-    // A field that was handed on could not be printed.
-    LostField,
-}
-
-impl fmt::Display for Stop<'_> {
-    fn fmt<W: fmt::Write>(&self, f: &mut fmt::Formatter<W>) -> fmt::Result {
-        match self {
-            Stop::Script(problem) => write!(f, "{problem}"),
-            Stop::Output(error) => write!(f, "{error}"),
-            Stop::LostField => write!(f, "a field could not be printed"),
+    // Reads the frame in the octets and prints what it says.
+    fn take<'a>(&mut self, output: Output<'_>, hex: &'a str) -> Result<(), Stop<'a>>
+        ensures { self.old.seen ≤ self.new.seen }
+    {
+        let octets = octets(output.rt.alloc(), hex)?;
+        let read = read_frame(&octets, self.seen);
+        self.seen = noted(self.seen, read);
+        match read {
+            Ok(Read { frame, length }) => {
+                output.tell(format_args!("take read {length}  # {}", Said(frame)))?;
+            }
+            Err(Unread::Refused(refusal)) => {
+                let number = u8::from(refusal);
+                output.tell(format_args!("take refused {number}  # the frame is not whole"))?;
+            }
+            Err(Unread::Faulty(fault)) => {
+                let about = About(Header::split(&octets).map(|(header, _)| header));
+                output.tell(format_args!(
+                    "take read 0 fault {}  # {about}{} ends the connection",
+                    Mark(fault),
+                    fault.code
+                ))?;
+            }
         }
+        Ok(())
     }
-}
 
-impl<'a> From<io::Error> for Stop<'a> {
-    fn from(error: io::Error) -> Stop<'a> {
-        Stop::Output(error)
-    }
-}
-
-impl<'a> From<Problem<'a>> for Stop<'a> {
-    fn from(problem: Problem<'a>) -> Stop<'a> {
-        Stop::Script(problem)
-    }
-}
-
-// Reads the frame in the octets and prints what it says; answers the highest stream seen.
-fn take<'a>(rt: &HostRuntime, number: usize, hex: &'a str, seen: u32) -> Result<u32, Stop<'a>>
-    ensures { IfOk result (λ s. seen ≤ s) }
-{
-    let octets = octets(rt.alloc(), hex)?;
-    let reading = read_frame(&octets, seen);
-    let header = match Header::split(&octets) {
-        Some((header, _)) => Some(header),
-        None => None,
-    };
-    println!(rt; "{number} take {}", Took { reading, header })?;
-    Ok(noted(seen, reading))
-}
-
-// Makes picks and prints each, then what the run gave to each place that offers.
-fn pick<'a>(
-    rt: &HostRuntime,
-    number: usize,
-    count: u32,
-    policy: &mut Policy,
-    offers: &Offers,
-) -> Result<(), Stop<'a>> {
-    let lag = policy.lag();
-    let picks = picked(rt.alloc(), policy, offers, count)?;
-    for pick in picks.as_slice() {
-        let Pick { place, charge } = *pick;
-        println!(rt; "{number} pick place {place} charge {charge}")?;
-    }
-    if picks.len() < count as usize {
-        println!(rt; "{number} pick none  # nobody offers")?;
-    }
-    for place in 0..16usize {
-        if offers[place].octets > 0 {
-            println!(rt;
-                "{number} share {} lag {lag}",
-                share_of(&picks, offers, place)
-            )?;
+    // Makes picks and prints each, then what the run gave to each place that offers.
+    fn pick<'a>(&mut self, output: Output<'_>, count: usize) -> Result<(), Stop<'a>>
+        ensures { self.new.seen ≡ self.old.seen }
+    {
+        let lag = self.contest.policy.lag();
+        let picks = self.contest.picks(output.rt.alloc(), count)?;
+        for Pick { place, charge } in &picks {
+            output.tell(format_args!("pick place {place} charge {charge}"))?;
         }
-    }
-    Ok(())
-}
-
-// Opens a path at place 0 of the site and prints what it names.
-fn fetch<'a>(
-    rt: &HostRuntime,
-    number: usize,
-    slices: u8,
-    ground: &Ground,
-    path: &str,
-) -> Result<(), Stop<'a>> {
-    let path = path.as_bytes();
-    let survey = match ground {
-        Ground::LineTest => Ok(in_line_test(slices, path)),
-        Ground::Shelf(octets) => in_shelf(octets, slices, path),
-    };
-    match survey {
-        Ok(Some(survey)) => println!(rt; "{number} fetch {}", Found(survey))?,
-        Ok(None) => println!(rt; "{number} fetch unnamed  # the site has no such path")?,
-        Err(refusal) => println!(rt;
-            "{number} fetch refused {}  # the shelf is malformed",
-            refusal.number()
-        )?,
-    }
-    Ok(())
-}
-
-// Decodes a field block with the table that the blocks before it left, and prints fields and table.
-fn block<'a>(
-    rt: &HostRuntime,
-    number: usize,
-    hex: &'a str,
-    table: &mut Table,
-) -> Result<(), Stop<'a>> {
-    let octets = octets(rt.alloc(), hex)?;
-    let mut printer = Printer {
-        rt,
-        line: number,
-        failed: Cell::new(false),
-    };
-    let decoded = decode(table, &octets, &mut printer);
-    if printer.failed.get() {
-        return Err(Stop::LostField);
-    }
-    match decoded {
-        Ok(()) => println!(rt; "{number} block ok  # decoded to its end")?,
-        Err(place) => println!(rt;
-            "{number} block fault C9 at {place}  # the table stays as it was then"
-        )?,
-    }
-    let line = number;
-    println!(rt; "{}", ShownTable { table, line })?;
-    Ok(())
-}
-
-// One call.
-fn call<'a>(
-    rt: &HostRuntime,
-    number: usize,
-    call: Call<'a>,
-    player: &mut Player,
-) -> Result<(), Stop<'a>>
-    ensures { player.old.seen ≤ player.new.seen }
-{
-    let name = match call {
-        Call::Take(hex) => {
-            player.seen = take(rt, number, hex, player.seen)?;
-            return Ok(());
+        if picks.len() < count {
+            output.tell("pick none  # nobody offers")?;
         }
-        Call::Offers(offers) => {
-            player.offers = offers;
-            return Ok(());
-        }
-        Call::Pick(count) => return pick(rt, number, count, &mut player.policy, &player.offers),
-        Call::Fetch(path) => return fetch(rt, number, player.slices, &player.ground, path),
-        Call::Block(hex) => return block(rt, number, hex, &mut player.table),
-        Call::Greet(hex) => {
-            let _preface = octets(rt.alloc(), hex)?;
-            "greet"
-        }
-        Call::Send(_) => "send",
-        Call::Claim => "claim",
-        Call::Answer { .. } => "answer",
-        Call::Shut => "shut",
-    };
-    println!(rt; "{number} {name} not available yet  # this rig has no connection yet")?;
-    Ok(())
-}
-
-// One setting.
-fn set<'a>(rt: &HostRuntime, setting: Setting<'a>, player: &mut Player) -> Result<(), Stop<'a>>
-    ensures { player.new.seen ≡ player.old.seen }
-{
-    match setting {
-        Setting::Scheduler(Scheduler::Drr) => player.policy = Policy::RoundRobin(Drr::new()),
-        Setting::Scheduler(Scheduler::Urgency) => player.policy = Policy::Leashed(Urgency::new()),
-        Setting::Site(site) => {
-            player.ground = match site.base {
-                Base::LineTest => Ground::LineTest,
-                Base::Shelf(hex) => Ground::Shelf(octets(rt.alloc(), hex)?),
-            };
-            player.slices = site.slices;
-        }
-        Setting::Book(_) | Setting::ShowOctets => {}
+        shares(output, &self.contest, &picks, lag)?;
+        Ok(())
     }
-    Ok(())
-}
 
-// One line: a setting only before all calls.
-pub fn play<'a>(
-    rt: &HostRuntime,
-    number: usize,
-    text: &'a str,
-    player: &mut Player,
-) -> Result<(), Stop<'a>>
-    ensures { player.old.seen ≤ player.new.seen }
-{
-    match read_line(text)? {
-        Line::Blank => Ok(()),
-        Line::Setting(_) if player.begun => Err(Stop::Script(Problem::LateSetting)),
-        Line::Setting(setting) => set(rt, setting, player),
-        Line::Call(line) => {
-            player.begun = true;
-            call(rt, number, line, player)
+    // Opens a path at place 0 of the site and prints what it names.
+    fn fetch<'a>(&self, output: Output<'_>, path: &str) -> Result<(), Stop<'a>> {
+        match fetched(&self.site, path.as_bytes()) {
+            Ok(Some(survey)) => output.tell(format_args!("fetch {}", Found(survey)))?,
+            Ok(None) => output.tell("fetch unnamed  # the site has no such path")?,
+            Err(refusal) => output.tell(format_args!(
+                "fetch refused {}  # the shelf is malformed",
+                u8::from(refusal)
+            ))?,
+        }
+        Ok(())
+    }
+
+    // Decodes a field block with the table that the blocks before it left, and prints fields and table.
+    fn block<'a>(&mut self, output: Output<'_>, hex: &'a str) -> Result<(), Stop<'a>>
+        ensures { self.new.seen ≡ self.old.seen }
+    {
+        let octets = octets(output.rt.alloc(), hex)?;
+        let mut printer = Printer {
+            output,
+            failed: Cell::new(false),
+        };
+        let decoded = decode(&mut self.table, &octets, &mut printer);
+        if printer.failed.get() {
+            return Err(Stop::LostField);
+        }
+        match decoded {
+            Ok(()) => output.tell("block ok  # decoded to its end")?,
+            Err(place) => output.tell(format_args!(
+                "block fault C9 at {place}  # the table stays as it was then"
+            ))?,
+        }
+        for (place, (name, value)) in self.table.entries().enumerate() {
+            output.tell(format_args!("table {} {}: {}", place + 62, Text(name), Text(value)))?;
+        }
+        output.tell(format_args!("table size {}", self.table.size()))?;
+        Ok(())
+    }
+
+    // One call.
+    fn call<'a>(&mut self, output: Output<'_>, call: Call<'a>) -> Result<(), Stop<'a>>
+        ensures { self.old.seen ≤ self.new.seen }
+    {
+        let name = match call {
+            Call::Take(hex) => return self.take(output, hex),
+            Call::Offers(offers) => {
+                self.contest.offers = offers;
+                return Ok(());
+            }
+            Call::Pick(count) => return self.pick(output, count.value as usize),
+            Call::Fetch(path) => return self.fetch(output, path),
+            Call::Block(hex) => return self.block(output, hex),
+            Call::Greet(hex) => {
+                let _preface = octets(output.rt.alloc(), hex)?;
+                "greet"
+            }
+            Call::Send(_) => "send",
+            Call::Claim => "claim",
+            Call::Answer { .. } => "answer",
+            Call::Shut => "shut",
+        };
+        output.tell(format_args!("{name} not available yet  # this rig has no connection yet"))?;
+        Ok(())
+    }
+
+    // One setting.
+    fn set<'a>(&mut self, heap: Global, setting: Setting<'a>) -> Result<(), Problem<'a>>
+        ensures { self.new.seen ≡ self.old.seen }
+    {
+        match setting {
+            Setting::Scheduler(scheduler) => {
+                self.contest.policy = match scheduler {
+                    Scheduler::Drr => Policy::RoundRobin(Drr::new()),
+                    Scheduler::Urgency => Policy::Leashed(Urgency::new()),
+                };
+            }
+            Setting::Site(site) => {
+                let base = match site.base {
+                    Base::LineTest => Base::LineTest,
+                    Base::Shelf(hex) => Base::Shelf(octets(heap, hex)?),
+                };
+                self.site = Site {
+                    layers: site.layers,
+                    base,
+                };
+            }
+            Setting::Book(_) | Setting::Show(_) => {}
+        }
+        Ok(())
+    }
+
+    // One line: a setting only before all calls.
+    pub fn play<'a>(&mut self, output: Output<'_>, text: &'a str) -> Result<(), Stop<'a>>
+        ensures { self.old.seen ≤ self.new.seen }
+    {
+        match read_line(text)? {
+            Line::Blank => Ok(()),
+            Line::Setting(_) if self.begun => Err(Problem::LateSetting.into()),
+            Line::Setting(setting) => Ok(self.set(output.rt.alloc(), setting)?),
+            Line::Call(call) => {
+                self.begun = true;
+                self.call(output, call)
+            }
         }
     }
 }

@@ -1,5 +1,6 @@
-// What a run of picks gave to each place.
-ghost use Rattle.std.specs.Prelude.{◌≡◌, ◌+◌, ◌^◌, ◌<◌, ◌≤◌, max};
+// What a run of picks gave to each place. Picks and place are all that these questions have, so that they stay
+// parameters.
+ghost use Rattle.std.specs.Prelude.{◌≡◌, ◌+◌, ◌^◌, ◌<◌, ◌≤◌};
 ghost use Rattle.rig.specs.Tally.{lead_after, most_ahead, frames_of};
 
 use scheduler::pick::Pick;
@@ -8,13 +9,7 @@ use scheduler::pick::Pick;
 pub fn frames(picks: &[Pick], place: usize) -> usize
     ensures { result ≡ frames_of place picks.now }
 {
-    let mut count = 0;
-    let mut rest = picks;
-    while let Some((pick, after)) = rest.split_first() {
-        count += usize::from(pick.place == place);
-        rest = after;
-    }
-    count
+    picks.iter().filter(|pick| pick.place == place).count()
 }
 
 // By how much one place is ahead of another after a further pick; one that falls behind starts anew.
@@ -32,23 +27,15 @@ fn lead_after(lead: u128, pick: Pick, place: usize, other: usize) -> u128
     }
 }
 
-pub fn larger(a: u128, b: u128) -> u128
-    ensures { result ≡ max a b }
-{
-    if a < b { b } else { a }
-}
-
 // The most by which one place was ahead of another over any stretch of the picks.
 pub fn ahead(picks: &[Pick], place: usize, other: usize) -> u128
     ensures { result ≡ most_ahead place other picks.now }
 {
     let mut lead = 0;
-    let mut most = 0;
-    let mut rest = picks;
-    while let Some((pick, after)) = rest.split_first() {
+    let mut most = 0u128;
+    for pick in picks {
         lead = lead_after(lead, *pick, place, other);
-        most = larger(most, lead);
-        rest = after;
+        most = most.max(lead);
     }
     most
 }

@@ -1,12 +1,14 @@
 // What a call did, as one line of the rig's output: `LINE CALL OUTCOME`, and after `#` a reading for people.
-use frames::code::ErrorCode;
+ghost use Rattle.std.specs.Prelude.{◌≡◌, codes, if◌then◌else◌};
+
+use frames::code::{ErrorCode, UnknownCode};
 use frames::fault::{Fault, Scope};
 use frames::frame::Frame;
 use frames::header::Header;
-use frames::settings::SettingsList;
+use frames::settings::{Setting, SettingsList};
 use slices::survey::Survey;
 use std::fmt;
-use wire::read::Reading;
+use std::iter::{once, repeat};
 
 // The number of an error code and its name, if it has one.
 #[derive(Clone, Copy)]
@@ -14,12 +16,9 @@ pub struct Code(pub u32);
 
 impl fmt::Display for Code {
     fn fmt<W: fmt::Write>(&self, f: &mut fmt::Formatter<W>) -> fmt::Result {
-        match ErrorCode::of(self.0) {
-            Some(code) => write!(f, "{code}"),
-            None => {
-                let number = self.0;
-                write!(f, "error code {number}")
-            }
+        match ErrorCode::try_from(self.0) {
+            Ok(code) => write!(f, "{code}"),
+            Err(UnknownCode(number)) => write!(f, "error code {number}"),
         }
     }
 }
@@ -30,17 +29,30 @@ pub struct Pairs<'a>(pub SettingsList<'a>);
 
 impl fmt::Display for Pairs<'_> {
     fn fmt<W: fmt::Write>(&self, f: &mut fmt::Formatter<W>) -> fmt::Result {
-        let mut list = self.0;
-        let mut mark = ":";
-        while let Some((setting, rest)) = list.split_first() {
-            let name = setting.name;
-            let value = setting.value;
+        let marks = once(":").chain(repeat(","));
+        for (mark, Setting { name, value }) in marks.zip(self.0.iter()) {
             write!(f, "{mark} {name} = {value}")?;
-            mark = ",";
-            list = rest;
         }
         Ok(())
     }
+}
+
+// Whether a field block goes on in the next frame.
+fn rest(end_headers: bool) -> &'static str
+    ensures { result.now ≡ (if end_headers then codes "the block is whole" else codes "more to come") }
+{
+    if end_headers {
+        "the block is whole"
+    } else {
+        "more to come"
+    }
+}
+
+// Whether a frame ends its request.
+fn end(end_stream: bool) -> &'static str
+    ensures { result.now ≡ (if end_stream then codes ", ends the request" else codes "") }
+{
+    if end_stream { ", ends the request" } else { "" }
 }
 
 // What a frame says.
@@ -57,14 +69,12 @@ impl fmt::Display for Said<'_> {
             Frame::Settings { list } => write!(f, "SETTINGS{}", Pairs(list)),
             Frame::SettingsAck => f.write_str("SETTINGS with ACK"),
             Frame::Ping { octets } => {
-                write!(
-                    f,
-                    "PING {:016x}, to be answered",
-                    u64::from_be_bytes(octets)
-                )
+                let data = u64::from_be_bytes(octets);
+                write!(f, "PING {data:016x}, to be answered")
             }
             Frame::PingAck { octets } => {
-                write!(f, "PING {:016x} with ACK", u64::from_be_bytes(octets))
+                let data = u64::from_be_bytes(octets);
+                write!(f, "PING {data:016x} with ACK")
             }
             Frame::GoAway { last, code, debug } => {
                 let (code, n) = (Code(code), debug.len());
@@ -76,75 +86,52 @@ impl fmt::Display for Said<'_> {
             Frame::Unknown { kind, stream } => {
                 write!(f, "type {kind} on stream {stream}: ignored")
             }
-            carrier => write!(f, "{}", Carried(carrier)),
+            Frame::Data { .. } | Frame::Headers { .. } | Frame::Continuation { .. } => {
+                carried(self.0, f)
+            }
         }
     }
 }
 
-// What a frame says that carries a part of a request.
-#[derive(Clone, Copy)]
-pub struct Carried<'a>(pub Frame<'a>);
-
-impl fmt::Display for Carried<'_> {
-    fn fmt<W: fmt::Write>(&self, f: &mut fmt::Formatter<W>) -> fmt::Result {
-        match self.0 {
-            Frame::Data {
-                stream,
-                octets,
-                counted,
-                end_stream,
-            } => {
-                let (n, end) = (octets.len(), End(end_stream));
-                write!(
-                    f,
-                    "DATA on stream {stream}: body octets: {n}, counted: {counted}{end}"
-                )
-            }
-            Frame::Headers {
-                stream,
-                fragment,
-                end_headers,
-                end_stream,
-            } => {
-                let (part, end) = (Part(fragment.len(), end_headers), End(end_stream));
-                write!(f, "HEADERS on stream {stream}: {part}{end}")
-            }
-            Frame::Continuation {
-                stream,
-                fragment,
-                end_headers,
-            } => {
-                let part = Part(fragment.len(), end_headers);
-                write!(f, "CONTINUATION on stream {stream}: {part}")
-            }
-            _ => Ok(()),
+// What a frame says that carries a part of a request; nothing of any other.
+fn carried<W: fmt::Write>(frame: Frame<'_>, f: &mut fmt::Formatter<W>) -> fmt::Result {
+    match frame {
+        Frame::Data {
+            stream,
+            octets,
+            counted,
+            end_stream,
+        } => {
+            let (n, end) = (octets.len(), end(end_stream));
+            write!(
+                f,
+                "DATA on stream {stream}: body octets: {n}, counted: {counted}{end}"
+            )
         }
-    }
-}
-
-// A part of a field block: how many octets, and whether the block is whole.
-#[derive(Clone, Copy)]
-pub struct Part(pub usize, pub bool);
-
-impl fmt::Display for Part {
-    fn fmt<W: fmt::Write>(&self, f: &mut fmt::Formatter<W>) -> fmt::Result {
-        let n = self.0;
-        let rest = if self.1 {
-            "the block is whole"
-        } else {
-            "more to come"
-        };
-        write!(f, "block octets: {n}, {rest}")
-    }
-}
-
-// Whether a frame ends its request.
-#[derive(Clone, Copy)]
-pub struct End(pub bool);
-
-impl fmt::Display for End {
-    fn fmt<W: fmt::Write>(&self, f: &mut fmt::Formatter<W>) -> fmt::Result {
-        f.write_str(if self.0 { ", ends the request" } else { "" })
+        Frame::Headers {
+            stream,
+            fragment,
+            end_headers,
+            end_stream,
+        } => {
+            let (n, rest, end) = (fragment.len(), rest(end_headers), end(end_stream));
+            write!(
+                f,
+                "HEADERS on stream {stream}: block octets: {n}, {rest}{end}"
+            )
+        }
+        Frame::Continuation {
+            stream,
+            fragment,
+            end_headers,
+        } => {
+            let (n, rest) = (fragment.len(), rest(end_headers));
+            write!(
+                f,
+                "CONTINUATION on stream {stream}: block octets: {n}, {rest}"
+            )
+        }
+        _ => Ok(()),
     }
 }
 
@@ -154,48 +141,16 @@ pub struct Mark(pub Fault);
 
 impl fmt::Display for Mark {
     fn fmt<W: fmt::Write>(&self, f: &mut fmt::Formatter<W>) -> fmt::Result {
-        let scope = match self.0.scope {
+        let Fault { scope, code, place } = self.0;
+        let scope = match scope {
             Scope::Connection => "C",
             Scope::Stream => "S",
         };
-        let number = self.0.code.number();
-        let place = self.0.place;
-        write!(f, "{scope}{number} at {place}")
+        write!(f, "{scope}{} at {place}", u32::from(code))
     }
 }
 
-// What came of a take: the outcome, two blanks, `#` and the reading. A connection fault answers 0 octets.
-#[derive(Clone, Copy)]
-pub struct Took<'a> {
-    pub reading: Reading<'a>,
-    pub header: Option<Header>,
-}
-
-impl fmt::Display for Took<'_> {
-    fn fmt<W: fmt::Write>(&self, f: &mut fmt::Formatter<W>) -> fmt::Result {
-        match self.reading {
-            Reading::Frame { frame, length } => {
-                let said = Said(frame);
-                write!(f, "read {length}  # {said}")
-            }
-            Reading::Refused(refusal) => {
-                let number = refusal.number();
-                write!(f, "refused {number}  # the frame is not whole")
-            }
-            Reading::Faulty(fault) => {
-                let mark = Mark(fault);
-                let code = fault.code;
-                let about = About(self.header);
-                write!(
-                    f,
-                    "read 0 fault {mark}  # {about}{code} ends the connection"
-                )
-            }
-        }
-    }
-}
-
-// The frame that a header announces.
+// The frame that a header announces, in front of what is said of it.
 #[derive(Clone, Copy)]
 pub struct About(pub Option<Header>);
 

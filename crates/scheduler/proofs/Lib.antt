@@ -9,3 +9,5 @@ pub mod Orders
 pub mod Bests
 pub mod Urgents
 pub mod Runs
+pub mod Kept
+pub mod Ranks

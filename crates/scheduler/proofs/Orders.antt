@@ -1,70 +1,74 @@
--- The order of offers: the computed test decides it, and it is transitive.
-use Rattle.std.proofs.Common.{◌≡◌, ℕ, ◌<◌, ◌≤◌, Bool, true, false, cond, eqb, ltb, List, get_or, sym, refl, ◌∙◌, inl, inr, arith}
-use Rattle.std.proofs.lemmas.Bool.{ltb-true, ltb-false, cases_eq, both_ways, eq-eqb, ne_eqb, cond-true, cond-false}
+-- The order of ranks: it is total, it decides which offer beats which, and it is that of the places.
+use Rattle.std.proofs.Common.{◌≡◌, ℕ, ◌<◌, Bool, true, false, cond, eqb, ltb, List, get_or, subst, arith}
+use Rattle.std.specs.Cmp.{IsTotalOrder, bool_cmp_total}
+use Rattle.std.specs.declared.cmp.Ordering.{Ordering}
+use Rattle.std.specs.declared.cmp.Ordering.TheVariants.{Less}
+use Rattle.std.specs.Ordering.{nat_cmp, bool_cmp, ordering_then}
+use Rattle.std.proofs.lemmas.Bool.Decides.{nat_tests}
+use Rattle.std.proofs.lemmas.Cmp.{then_total, on_total, nat_cmp_total}
 use Rattle.scheduler.specs.declared.offer.Offer.{Offer}
+use Rattle.scheduler.specs.declared.urgency.Rank.{Rank}
 use Rattle.scheduler.specs.Offers.{offer_at}
 use Rattle.scheduler.specs.Urgencies.{beats_at}
-use Rattle.scheduler.specs.Chosen.{Before, flag, tie, Precedes}
+use Rattle.scheduler.specs.Chosen.{Before, rank_of, Precedes}
 
-before_trans : (m n o : ℕ) (P Q R : Type 0) → (P → Q → R) → Before m n P → Before n o Q → Before m o R
-before_trans m n o P Q R f (inl a) (inl b) = inl (omega arith)
-before_trans m n o P Q R f (inl a) (inr b) = inl (omega (arith, b.0))
-before_trans m n o P Q R f (inr a) (inl b) = inl (omega (arith, a.0))
-before_trans m n o P Q R f (inr a) (inr b) = inr (a.0 ∙ b.0, f a.1 b.1)
+-- Ranks go by their parts in this order.
+abbrev pub rank_cmp : Rank → Rank → Ordering
+rank_cmp a b =
+    ordering_then (nat_cmp a.urgency b.urgency)
+    (ordering_then (bool_cmp a.incremental b.incremental) (ordering_then (nat_cmp a.tie b.tie) (nat_cmp a.place b.place)))
 
-at_most_before : (m n : ℕ) (P : Type 0) → m ≤ n → P → Before m n P
-at_most_before m n P h p = elim (cases_eq m n) [ inl e ↦ inr (e, p) | inr ne ↦ inl (omega arith) ]
+pub rank_cmp_total : IsTotalOrder rank_cmp
+rank_cmp_total =
+    then_total (on_total (λ r. r.urgency) nat_cmp_total)
+    (then_total (on_total (λ r. r.incremental) bool_cmp_total) (then_total (on_total (λ r. r.tie) nat_cmp_total) (on_total (λ r. r.place) nat_cmp_total)))
 
--- The test of urgencies, and what it leaves to the next rule.
-first_true : (u v : ℕ) (b : Bool) → cond (eqb u v) b (ltb u v) ≡ true → Before u v (b ≡ true)
-first_true u v b h =
-    elim (cases_eq u v) [
-      | inl e ↦ inr (e, sym (cond-true (eqb u v) b (ltb u v) (eq-eqb u v e)) ∙ h)
-      | inr ne ↦ inl (ltb-true u v (sym (cond-false (eqb u v) b (ltb u v) (ne_eqb u v ne)) ∙ h))
-    ]
+-- Of two places at offers of these parts, p before q by rank: so it is in words.
+in_words : (i j : Bool) (u v t w p q : ℕ)
+    → ordering_then (nat_cmp u v) (ordering_then (bool_cmp i j) (ordering_then (nat_cmp t w) (nat_cmp p q))) ≡ Less
+    → Before u v (Before (cond i 1 0) (cond j 1 0) (Before t w (p < q)))
+in_words true true u v t w p q h = grind (arith, nat_tests)
+in_words true false u v t w p q h = grind (arith, nat_tests)
+in_words false true u v t w p q h = grind (arith, nat_tests)
+in_words false false u v t w p q h = grind (arith, nat_tests)
 
-first_false : (u v : ℕ) (b : Bool) → cond (eqb u v) b (ltb u v) ≡ false → Before v u (b ≡ false)
-first_false u v b h =
-    elim (cases_eq u v) [
-      | inl e ↦ inr (sym e, sym (cond-true (eqb u v) b (ltb u v) (eq-eqb u v e)) ∙ h)
-      | inr ne ↦ (let most = ltb-false u v (sym (cond-false (eqb u v) b (ltb u v) (ne_eqb u v ne)) ∙ h) in inl (omega (arith, most, ne)))
-    ]
-
-next_rule : (m n : ℕ) (P Q : Type 0) → (P → Q) → Before m n P → Before m n Q
-next_rule m n P Q f (inl a) = inl a
-next_rule m n P Q f (inr a) = inr (a.0, f a.1)
-
--- The tests of flag and tie.
-abbrev rest : Bool → Bool → ℕ → ℕ → ℕ → ℕ → Bool
-rest i j s t x y = cond i (cond j (ltb x y) false) (cond j true (ltb s t))
-
-rest_true : (i j : Bool) (s t x y : ℕ) (P : Type 0) → rest i j s t x y ≡ true → Before (cond i 1 0) (cond j 1 0) (Before (cond i x s) (cond j y t) P)
-rest_true true true s t x y P h = inr (refl, inl (ltb-true x y h))
-rest_true true false s t x y P h = absurd (both_ways false refl h)
-rest_true false true s t x y P h = inl (omega arith)
-rest_true false false s t x y P h = inr (refl, inl (ltb-true s t h))
-
-rest_false : (i j : Bool) (s t x y : ℕ) (P : Type 0) → P → rest i j s t x y ≡ false → Before (cond j 1 0) (cond i 1 0) (Before (cond j y t) (cond i x s) P)
-rest_false true true s t x y P p h = inr (refl, at_most_before y x P (ltb-false x y h) p)
-rest_false true false s t x y P p h = inl (omega arith)
-rest_false false true s t x y P p h = absurd (both_ways true h refl)
-rest_false false false s t x y P p h = inr (refl, at_most_before t s P (ltb-false s t h) p)
+-- A higher place q goes first if it beats the lower p, and else p goes first.
+beats : (i j : Bool) (u v s t x y p q : ℕ) → p < q
+    → cond (cond (eqb v u) (cond j (cond i (ltb y x) false) (cond i true (ltb t s))) (ltb v u))
+    (ordering_then (nat_cmp v u) (ordering_then (bool_cmp j i) (ordering_then (nat_cmp (cond j y t) (cond i x s)) (nat_cmp q p))))
+    (ordering_then (nat_cmp u v) (ordering_then (bool_cmp i j) (ordering_then (nat_cmp (cond i x s) (cond j y t)) (nat_cmp p q)))) ≡ Less
+beats true true u v s t x y p q h = grind (arith, nat_tests)
+beats true false u v s t x y p q h = grind (arith, nat_tests)
+beats false true u v s t x y p q h = grind (arith, nat_tests)
+beats false false u v s t x y p q h = grind (arith, nat_tests)
 
 module _ (leads : List ℕ) (os : List Offer) where
-  pub beats-precedes : (p q : ℕ) → beats_at leads os p q ≡ true → Precedes leads os p q
-  beats-precedes p q h =
+  abbrev pub rank_at : ℕ → Rank
+  rank_at p = rank_of p (offer_at os p) (get_or leads p 0)
+
+  -- p goes before q by rank
+  unfoldable pub First : ℕ → ℕ → Type 0
+  First p q = rank_cmp (rank_at p) (rank_at q) ≡ Less
+
+  pub first-precedes : (p q : ℕ) → First p q → Precedes leads os p q
+  unfolding First
+  first-precedes p q h = in_words (offer_at os p).incremental (offer_at os q).incremental _ _ _ _ p q h
+
+  pub first-trans : (p q r : ℕ) → First p q → First q r → First p r
+  unfolding First
+  first-trans p q r = rank_cmp_total.trans (rank_at p) (rank_at q) (rank_at r)
+
+  either : (p q : ℕ) → p < q → cond (beats_at leads os q p) (rank_cmp (rank_at q) (rank_at p)) (rank_cmp (rank_at p) (rank_at q)) ≡ Less
+  either p q h =
       let a = offer_at os p in
       let b = offer_at os q in
-      next_rule a.urgency b.urgency _ _ (rest_true a.incremental b.incremental a.stream b.stream (get_or leads p 0) (get_or leads q 0) (p < q)) (first_true a.urgency b.urgency _ h)
+      beats a.incremental b.incremental a.urgency b.urgency a.stream b.stream (get_or leads p 0) (get_or leads q 0) p q h
 
-  pub unbeaten-precedes : (p q : ℕ) → p < q → beats_at leads os q p ≡ false → Precedes leads os p q
-  unbeaten-precedes p q lower h =
-      let a = offer_at os q in
-      let b = offer_at os p in
-      next_rule b.urgency a.urgency _ _ (rest_false a.incremental b.incremental a.stream b.stream (get_or leads q 0) (get_or leads p 0) (p < q) lower) (first_false a.urgency b.urgency _ h)
+  -- a higher place goes first if it beats the lower, and else the lower stays first
+  pub goes : (p q : ℕ) → p < q → beats_at leads os q p ≡ true → First q p
+  unfolding First
+  goes p q h e = subst (λ b. cond b (rank_cmp (rank_at q) (rank_at p)) (rank_cmp (rank_at p) (rank_at q)) ≡ Less) e (either p q h)
 
-  pub precedes-trans : (p q r : ℕ) → Precedes leads os p q → Precedes leads os q r → Precedes leads os p r
-  precedes-trans p q r =
-      before_trans (offer_at os p).urgency (offer_at os q).urgency (offer_at os r).urgency _ _ _
-      (before_trans (flag (offer_at os p)) (flag (offer_at os q)) (flag (offer_at os r)) _ _ _
-      (before_trans (tie (offer_at os p) (get_or leads p 0)) (tie (offer_at os q) (get_or leads q 0)) (tie (offer_at os r) (get_or leads r 0)) _ _ _ (λ a b. omega arith)))
+  pub stays : (p q : ℕ) → p < q → beats_at leads os q p ≡ false → First p q
+  unfolding First
+  stays p q h e = subst (λ b. cond b (rank_cmp (rank_at q) (rank_at p)) (rank_cmp (rank_at p) (rank_at q)) ≡ Less) e (either p q h)

@@ -2,13 +2,13 @@
 use Rattle.std.proofs.Common.{◌≡◌, ℕ, zero, suc, ◌+◌, ◌<◌, ◌≤◌, Bool, true, false, cond, not, ◌&&◌, eqb, ltb, ◌⊎◌, List, [], ◌∷◌, set, Some, None, Option, refl, ap, inl, inr, arith}
 use Rattle.std.specs.List.{AllByRecursion}
 use Rattle.std.proofs.lemmas.List.Sums.{sum_by-cons}
+use Rattle.std.proofs.lemmas.Bool.Decides.{nat_tests}
 use Rattle.std.proofs.lemmas.Bool.{cond_both, ltb-true, ltb-false}
 use Rattle.scheduler.specs.declared.offer.Offer.{Offer}
 use Rattle.scheduler.specs.Offers.{octets_at, Offering}
 use Rattle.scheduler.specs.Rounds.{quiet_below, following, walk, covers, leaves, drr_pick, standing}
 use Rattle.scheduler.specs.Turns.{Turn, counted, turns, turns_of, Reached}
-use Rattle.scheduler.specs.Debts.{back}
-use Rattle.scheduler.proofs.Ring.{next_below, forth, forth_some, forth_first, forth_next, after, after_itself, after-walk}
+use Rattle.scheduler.proofs.Ring.{next_below, forth, after}
 
 -- The place that a walk from p stops at is the nearest that offers.
 abbrev Near : List Offer → ℕ → Option ℕ → Type 0
@@ -16,21 +16,18 @@ Near os p None = Unit {0}
 Near os p (Some k) = (k < 16) × Offering os k × ((j : ℕ) → j < 16 → Offering os j → forth p k ≤ forth p j)
 
 pass_near : (os : List Offer) (p : ℕ) → p < 16 → octets_at os (following p) ≤ 0 → (o : Option ℕ) → Near os (following p) o → Near os p o
+unfolding forth following
 pass_near os p hp none None near = tt
-pass_near os p hp none (Some k) near = (
-  near.0,
-  near.1,
-  λ j hj off.
-      let apart : (x : ℕ) → Offering os x → x ≡ following p → ⊥ = λ x here e. omega (arith, ap (octets_at os) e) in
-      omega (arith, near.2 j hj off, forth_next p k hp near.0 (apart k near.1), forth_next p j hp hj (apart j off)),
-)
+pass_near os p hp none (Some k) near =
+    let apart : (x : ℕ) → Offering os x → x ≡ following p → ⊥ = λ x here e. omega (arith, ap (octets_at os) e) in
+    (near.0, near.1, λ j hj off. grind (arith, nat_tests, near.2 j hj off, apart k near.1, apart j off))
 
 walk_near : (os : List Offer) (n : ℕ) (bs : List ℕ) (p : ℕ) → p < 16 → Near os p (walk n bs p os).0
-unfolding walk
+unfolding walk forth following
 walk_near os zero bs p hp = tt
 walk_near os (suc n) bs p hp =
     cond_both {A = Option ℕ × List ℕ} (ltb 0 (octets_at os (following p))) _ _ (λ r. Near os p r.0)
-    (λ e. (next_below p hp, ltb-true 0 (octets_at os (following p)) e, λ j hj off. omega (arith, forth_first p hp, forth_some p j hp hj)))
+    (λ e. (next_below p hp, ltb-true 0 (octets_at os (following p)) e, λ j hj off. grind (arith, nat_tests)))
     (λ e. pass_near os p hp (ltb-false 0 (octets_at os (following p)) e) _ (walk_near os n (set bs (following p) 0) (following p) (next_below p hp)))
 
 -- A pick stays at its place, or begins a turn at the nearest that offers.
@@ -54,14 +51,13 @@ module _ (i j : ℕ) (hi : i < 16) (hj : j < 16) (ne : i ≡ j → ⊥) where
   Level p ts = turns_of i ts + after i j p ≤ turns_of j ts + 1
 
   step : (os : List Offer) (p : ℕ) (o : Option ℕ) (begun : Bool) (ts : List Turn) → p < 16 → Offering os j → Moved os p o begun → Level (standing p o) ts → Level p (counted o begun ts)
+  unfolding forth after
   step os p None begun ts hp off moved rest = rest
   step os p (Some k) begun ts hp off moved rest =
       let head : (x : ℕ) → turns_of x (counted (Some k) begun ts) ≡ cond (begun && eqb k x) 1 0 + turns_of x ts = λ x. sum_by-cons (λ t. cond (t.begun && eqb t.place x) 1 0) (record { place = k; begun = begun }) ts in
       elim moved [
-        | inl stays ↦ (let none : (x : ℕ) → ◌≡◌ {A = ℕ} (cond (begun && eqb k x) 1 0) 0 = λ x. ap (λ b. cond (b && eqb k x) 1 0) stays.1 in
-            omega (arith, rest, head i, head j, none i, none j, ap (after i j) stays.0))
-        | inr walks ↦ (let one : (x : ℕ) → ◌≡◌ {A = ℕ} (cond (begun && eqb k x) 1 0) (cond (eqb k x) 1 0) = λ x. ap (λ b. cond (b && eqb k x) 1 0) walks.1 in
-            omega (arith, rest, head i, head j, one i, one j, after-walk i j p k hi hj hp walks.0.0 ne (walks.0.2 j hj off)))
+        | inl stays ↦ grind (arith, nat_tests, rest, head i, head j, stays.0, stays.1)
+        | inr walks ↦ grind (arith, nat_tests, rest, head i, head j, walks.1, walks.0.0, walks.0.2 j hj off)
       ]
 
   standing-below : (os : List Offer) (p : ℕ) (o : Option ℕ) (begun : Bool) → p < 16 → Moved os p o begun → standing p o < 16
@@ -70,11 +66,12 @@ module _ (i j : ℕ) (hi : i < 16) (hj : j < 16) (ne : i ≡ j → ⊥) where
 
   level : (rows : List (List Offer)) (bs : List ℕ) (p : ℕ) → p < 16 → AllByRecursion (λ os. Offering os j) rows → Level p (turns bs p rows)
   unfolding after
-  level [] bs p hp off = cond_both (ltb (back p i) (back j i)) 1 0 (λ x. 0 + x ≤ 0 + 1) (λ _. omega arith) (λ _. omega arith)
+  level [] bs p hp off = grind (arith, nat_tests)
   level (os ∷ rows) bs p hp off =
       let moved = pick_moved os bs p hp in
       step os p (drr_pick bs p os).0 (not (covers bs p os)) (turns (drr_pick bs p os).1 (standing p (drr_pick bs p os).0) rows) hp off.0 moved
       (level rows (drr_pick bs p os).1 (standing p (drr_pick bs p os).0) (standing-below os p _ _ hp moved) off.1)
 
 pub reached : (bs : List ℕ) (i : ℕ) → i < 16 → Reached bs i
-reached bs i hi = λ j rows hj ne off. omega (arith, level i j hi hj ne rows bs i hi off, after_itself i j hi hj ne)
+unfolding after
+reached bs i hi = λ j rows hj ne off. grind (arith, nat_tests, level i j hi hj ne rows bs i hi off)

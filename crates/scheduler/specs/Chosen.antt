@@ -1,6 +1,7 @@
 -- Which place leashed urgency picks, in words: the one that precedes every other eligible place.
 use Rattle.std.specs.Prelude.{◌≡◌, ℕ, ◌<◌, ◌≤◌, true, false, cond, ◌⊎◌, List, Some, None, Option, ◌≢◌, slice_index}
 use Rattle.scheduler.specs.declared.offer.Offer.{Offer}
+use Rattle.scheduler.specs.declared.urgency.Rank.{Rank}
 use Rattle.scheduler.specs.Offers.{octets_at, offer_at, Offering, Quiet}
 use Rattle.scheduler.specs.Urgencies.{eligible, lessened}
 
@@ -15,6 +16,10 @@ flag o = cond o.incremental 1 0
 -- What ranks two offers of one urgency and one flag: the stream, or the lead of incremental ones.
 abbrev pub tie : Offer → ℕ → ℕ
 tie o lead = cond o.incremental lead o.stream
+
+-- What ranks a place with an offer at a lead.
+abbrev pub rank_of : ℕ → Offer → ℕ → Rank
+rank_of place o lead = record { urgency = o.urgency; incremental = o.incremental; tie = tie o lead; place = place }
 
 -- Place p goes before place q: by urgency number, flag, tie and place, in this order.
 abbrev pub Precedes : List ℕ → List Offer → ℕ → ℕ → Type 0

@@ -30,10 +30,6 @@ RunLaw lag rows picks =
     (m n i j : ℕ) → i < 16 → j < 16 → (i ≢ j) → Always i (take n (drop m rows))
     → charged (take n (drop m picks)) j ≤ charged (take n (drop m picks)) i + lag
 
--- A run of n picks ends where the rows end, where the room ends, or at a row that offers nothing.
-abbrev pub Ended : ℕ → List (List Offer) → ℕ → Type 0
-Ended n rows room = (n ≤ length rows) × (n ≤ room) × (n < length rows → n < room → Quiet (slice_index_or rows n []))
-
 -- Why a run stopped after n picks: no row is left; or there is no room for a further pick; or the next row offers nothing.
 abbrev pub Stopped : Stop → ℕ → List (List Offer) → ℕ → Type 0
 Stopped Spent n rows room = n ≡ length rows

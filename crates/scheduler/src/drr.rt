@@ -1,26 +1,22 @@
 // Deficit round robin.
-ghost use Rattle.std.specs.Prelude.{◌≡◌, ℕ, ◌+◌, ◌-◌, ◌*◌, ◌<◌, ◌≤◌, replicate, ◌≢◌, slice_index};
+ghost use Rattle.std.specs.Prelude.{◌≡◌, ℕ, ◌+◌, ◌-◌, ◌*◌, ◌<◌, ◌≤◌, ◌&&◌, cond, replicate, ◌≢◌, nat_le, nat_lt, slice_index};
 ghost use Rattle.scheduler.specs.Fair.{Fair};
 ghost use Rattle.scheduler.specs.Offers.{charge_of, largest};
-ghost use Rattle.scheduler.specs.Rounds.{quiet_below, following, walk as walk_over, covers, leaves, drr_pick, standing};
+ghost use Rattle.scheduler.specs.Rounds.{walk as walk_over, drr_pick, standing};
 ghost use Rattle.scheduler.specs.Turns.{Reached};
 ghost use Rattle.scheduler.specs.Debts.{drr_lag, drr_debt, Arrived};
 ghost use Rattle.scheduler.specs.Laws.{drr_debt_bounded};
 
 use super::meaning::Scheduler;
-use super::offer::{Offer, Row};
-use super::offer_at;
+use super::offer::{LARGEST_CHARGE, Offer, Row};
 
-// T: what a place is given when the round reaches it. It covers every offer.
-const QUANTUM: u32 = 860160;
+// What a place is given when the round reaches it. It covers every offer.
+const QUANTUM: u32 = LARGEST_CHARGE;
 
-// What each place has left of what it was given.
-type Balances = [u32; 16];
-
-// The balances, and the place whose turn it is.
+// What each place has left of what it was given, and the place whose turn it is.
 #[derive(Clone, Copy)]
 pub struct Drr {
-    balances: Balances,
+    balances: [u32; 16],
     current: usize,
     ghost within: { current < 16 },
     ghost low: { (k : ℕ) → (k ≢ current) → slice_index balances k ≤ largest - 1 },
@@ -39,68 +35,41 @@ impl Drr {
     }
 }
 
-// Whether no place offers.
-fn quiet(offers: &Row) -> bool
-    ensures { result ≡ quiet_below offers.now 16 }
+// Whether a balance covers an offer of its place.
+fn covered(balance: u32, offer: &Offer) -> bool
+    ensures { result ≡ (nat_lt 0 offer.now.octets && nat_le (charge_of offer.now) balance) }
 {
-    for i in 0..16 {
-        if offer_at(offers, i).has_octets() {
-            return false;
-        }
-    }
-    true
-}
-
-// The step on from a place.
-fn next(p: usize) -> usize
-    requires { p < 16 }
-    ensures { (result ≡ following p) × (result < 16) }
-{
-    if p == 15 { 0 } else { p + 1 }
-}
-
-// Whether a place has an offer that its balance covers.
-fn covered(balances: &Balances, p: usize, offers: &Row) -> bool
-    requires { p < 16 }
-    ensures { result ≡ covers balances.now p offers.now }
-{
-    let o = offer_at(offers, p);
-    o.has_octets() & (o.charge() <= balances[p])
-}
-
-// A place without an offer loses its balance as the round goes on.
-fn leave(balances: &mut Balances, p: usize, offers: &Row)
-    requires { p < 16 }
-    ensures { balances.new ≡ leaves balances.old p offers.now }
-{
-    if !offer_at(offers, p).has_octets() {
-        balances[p] = 0;
-    }
+    offer.has_octets() && offer.charge() <= balance
 }
 
 // A balance after its place has paid for an offer.
-fn paid(balance: u32, o: &Offer) -> u32
-    requires { charge_of o.now ≤ balance }
-    ensures { result ≡ balance - charge_of o.now }
+fn paid(balance: u32, offer: &Offer) -> u32
+    requires { charge_of offer.now ≤ balance }
+    ensures { result ≡ balance - charge_of offer.now }
 {
-    balance - o.charge()
+    balance - offer.charge()
 }
 
-// On from a place to the next that offers, which is given T and pays its charge.
-fn walk(balances: &mut Balances, start: usize, offers: &Row) -> Option<usize>
+// A balance as the round goes on from its place: one without an offer loses it.
+fn left(balance: u32, offer: &Offer) -> u32
+    ensures { result ≡ cond (nat_lt 0 offer.now.octets) balance 0 }
+{
+    if offer.has_octets() { balance } else { 0 }
+}
+
+// On from a place, round the ring, to the next that offers, which is given T and pays its charge.
+fn walk(balances: &mut [u32; 16], start: usize, offers: &Row) -> Option<usize>
     requires { (start < 16) × ((k : ℕ) → slice_index balances.old k ≤ largest - 1) }
     ensures value { (result, balances.new) ≡ walk_over 16 balances.old start offers.now }
     ensures cases { Arrived balances.old start offers.now result balances.new }
 {
-    let mut p = start;
-    for turn in 0..16usize {
-        p = next(p);
-        let o = offer_at(offers, p);
-        if o.has_octets() {
-            balances[p] = paid(balances[p] + QUANTUM, &o);
-            return Some(p);
+    for place in (start + 1..start + 17).map(|place| place % 16) {
+        let offer = &offers[place];
+        if offer.has_octets() {
+            balances[place] = paid(balances[place] + QUANTUM, offer);
+            return Some(place);
         }
-        balances[p] = 0;
+        balances[place] = 0;
     }
     None
 }
@@ -124,22 +93,17 @@ impl Scheduler for Drr {
         ensures after { self.new.current ≡ standing self.old.current result }
         ensures reached { Reached self.new.balances self.new.current }
     {
-        if quiet(offers) {
-            return None;
-        }
         let mut balances = self.balances;
         let place = self.current;
-        if covered(&balances, place, offers) {
-            balances[place] = paid(balances[place], &offer_at(offers, place));
+        let offer = &offers[place];
+        if covered(balances[place], offer) {
+            balances[place] = paid(balances[place], offer);
             self.balances = balances;
             return Some(place);
         }
-        leave(&mut balances, place, offers);
-        let k = walk(&mut balances, place, offers)?;
-        *self = Drr {
-            balances,
-            current: k,
-        };
-        Some(k)
+        balances[place] = left(balances[place], offer);
+        let current = walk(&mut balances, place, offers)?;
+        *self = Drr { balances, current };
+        Some(current)
     }
 }

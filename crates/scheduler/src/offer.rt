@@ -1,6 +1,9 @@
 // What a place offers to send at once: at most 1,024 octets of a stream, at one of eight urgencies, 0 the most urgent.
 ghost use Rattle.std.specs.Prelude.{◌≤◌};
 
+// T: the largest charge of an offer.
+pub(crate) const LARGEST_CHARGE: u32 = 860160;
+
 #[derive(Clone, Copy)]
 pub struct Offer {
     pub(crate) octets: u16,
@@ -15,10 +18,69 @@ pub struct Offer {
 pub type Row = [Offer; 16];
 
 // Why an offer is refused.
-#[derive(Clone, Copy, PartialEq, Debug)]
+#[derive(Clone, Copy, PartialEq, Eq, Debug)]
 pub enum OutOfRange {
     Octets,
     Urgency,
 }
 
-pub mod make;
+impl Offer {
+    ghost use Rattle.std.specs.Prelude.{◌≡◌, ◌<◌, false, Ok, nat_lt};
+    ghost use Rattle.scheduler.specs.Offers.{charge_of, largest, Made};
+
+    // The offer, or which number is outside its range.
+    pub fn new(
+        octets: u16,
+        urgency: u8,
+        incremental: bool,
+        stream: u32,
+    ) -> Result<Offer, OutOfRange>
+        ensures { Made octets urgency incremental stream result }
+    {
+        if octets > 1024 {
+            return Err(OutOfRange::Octets);
+        }
+        if urgency > 7 {
+            return Err(OutOfRange::Urgency);
+        }
+        Ok(Offer {
+            octets,
+            urgency,
+            incremental,
+            stream,
+        })
+    }
+
+    // What a place offers that has nothing to send.
+    pub fn nothing() -> Offer
+        ensures { Made 0 0 false 0 (Ok result) }
+    {
+        Offer {
+            octets: 0,
+            urgency: 0,
+            incremental: false,
+            stream: 0,
+        }
+    }
+
+    pub fn octets(&self) -> u16
+        ensures { result ≡ self.now.octets }
+    {
+        self.octets
+    }
+
+    // Whether there is anything to send.
+    pub fn has_octets(&self) -> bool
+        ensures { result ≡ nat_lt 0 self.now.octets }
+    {
+        0 < self.octets
+    }
+
+    // What sending it costs its place.
+    pub fn charge(&self) -> u32
+        ensures value { result ≡ charge_of self.now }
+        ensures most { result ≤ largest }
+    {
+        u32::from(self.octets) * 840 / (8 - u32::from(self.urgency))
+    }
+}

@@ -1,12 +1,12 @@
 // What a run of picks leaves: each pick, and why the run stopped.
 
-#[derive(Clone, Copy)]
+#[derive(Clone, Copy, PartialEq, Eq, Debug)]
 pub struct Pick {
     pub place: usize,
     pub charge: u32,
 }
 
-#[derive(Clone, Copy, PartialEq, Debug)]
+#[derive(Clone, Copy, PartialEq, Eq, Debug)]
 pub enum Stop {
     // No row of offers is left.
     Spent,
@@ -17,7 +17,7 @@ pub enum Stop {
 }
 
 // How many picks were made, and why no more.
-#[derive(Clone, Copy)]
+#[derive(Clone, Copy, PartialEq, Eq, Debug)]
 pub struct Outcome {
     pub made: usize,
     pub stop: Stop,

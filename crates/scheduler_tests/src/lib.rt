@@ -8,7 +8,7 @@ mod tests {
     use scheduler::drr::Drr;
     use scheduler::meaning::Scheduler;
     use scheduler::offer::{Offer, OutOfRange, Row};
-    use scheduler::pick::{Pick, Stop};
+    use scheduler::pick::{Outcome, Pick, Stop};
     use scheduler::run::replay;
     use scheduler::urgency::Urgency;
     use std::process::Abort;
@@ -24,21 +24,18 @@ mod tests {
 
     // As many picks of place 0 as the first number says, then of place 1, and so on in turn.
     fn gives<S: Scheduler>(rt: &impl Abort, scheduler: &mut S, offers: &Row, frames: &[u8]) {
-        let mut place = 0;
-        for n in frames {
+        for (turn, n) in frames.iter().enumerate() {
             for _ in 0..*n {
-                assert_eq!(rt; scheduler.pick(offers), Some(place));
+                assert_eq!(rt; scheduler.pick(offers), Some(turn % 2));
             }
-            place = if place == 0 { 1 } else { 0 };
         }
     }
 
     #[test]
     fn the_worked_values_come_out(rt: HostRuntime) -> Result<(), Fail> {
         let worked = worked_values();
-        let (Ok(round), Ok(urgent)) = (two(3, 7), two(0, 7)) else {
-            return Err(Fail::new("an offer in range is refused"));
-        };
+        let round = two(3, 7)?;
+        let urgent = two(0, 7)?;
         assert_eq!(rt; urgent[0].charge(), worked.charges[0]);
         assert_eq!(rt; urgent[1].charge(), worked.charges[1]);
         gives(
@@ -72,25 +69,43 @@ mod tests {
 
     #[test]
     fn a_run_says_why_it_stopped(rt: HostRuntime) -> Result<(), Fail> {
-        let Ok(row) = two(3, 7) else {
-            return Err(Fail::new("an offer in range is refused"));
-        };
+        let row = two(3, 7)?;
         let mut picks = [Pick {
             place: 0,
             charge: 0,
         }; 3];
         let mut scheduler = Drr::new();
         let idle = replay(&mut scheduler, &[row, [Offer::nothing(); 16]], &mut picks);
-        assert_eq!(rt; idle.made, 1);
-        assert_eq!(rt; idle.stop, Stop::Idle);
+        assert_eq!(rt;
+            idle,
+            Outcome {
+                made: 1,
+                stop: Stop::Idle
+            }
+        );
         let spent = replay(&mut scheduler, &[row, row, row], &mut picks);
-        assert_eq!(rt; spent.made, 3);
-        assert_eq!(rt; spent.stop, Stop::Spent);
+        assert_eq!(rt;
+            spent,
+            Outcome {
+                made: 3,
+                stop: Stop::Spent
+            }
+        );
         let full = replay(&mut scheduler, &[row; 4], &mut picks);
-        assert_eq!(rt; full.made, 3);
-        assert_eq!(rt; full.stop, Stop::Full);
-        assert_eq!(rt; picks[1].place, 1);
-        assert_eq!(rt; picks[1].charge, 860160);
+        assert_eq!(rt;
+            full,
+            Outcome {
+                made: 3,
+                stop: Stop::Full
+            }
+        );
+        assert_eq!(rt;
+            picks[1],
+            Pick {
+                place: 1,
+                charge: 860160
+            }
+        );
         Ok(())
     }
 }

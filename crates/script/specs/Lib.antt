@@ -1,4 +1,6 @@
 pub mod Decoded
 pub mod Lines
+pub mod Names
+pub mod Numbers
 pub mod Text
 pub mod Words

@@ -1,34 +1,36 @@
 // What is wrong with a line of a script.
-use std::fmt;
+use std::alloc::AllocError;
+use thiserror::Error;
 
-#[derive(Clone, Copy)]
+#[derive(Clone, Copy, Debug, Error)]
 pub enum Problem<'a> {
+    #[error("unknown word: {0}")]
     UnknownWord(&'a str),
+    #[error("the line ends too early")]
     MissingWord,
+    #[error("one word too many: {0}")]
     ExtraWord(&'a str),
+    #[error("not an even number of hexadecimal digits: {0}")]
     BadHex(&'a str),
+    #[error("not a number from {least} to {most}: {text}")]
     BadNumber {
         text: &'a str,
         least: u32,
         most: u32,
     },
+    #[error("settings come before all calls")]
     LateSetting,
+    #[error("out of memory")]
     NoMemory,
 }
 
-impl fmt::Display for Problem<'_> {
-    fn fmt<W: fmt::Write>(&self, f: &mut fmt::Formatter<W>) -> fmt::Result {
-        match *self {
-            Problem::UnknownWord(word) => write!(f, "unknown word: {word}"),
-            Problem::MissingWord => write!(f, "the line ends too early"),
-            Problem::ExtraWord(word) => write!(f, "one word too many: {word}"),
-            Problem::BadHex(word) => write!(f, "not an even number of hexadecimal digits: {word}"),
-            Problem::BadNumber { text, least, most } => write!(
-                f,
-                "not a number from {least} to {most}: {text}"
-            ),
-            Problem::LateSetting => write!(f, "settings come before all calls"),
-            Problem::NoMemory => write!(f, "out of memory"),
-        }
+impl<'a> From<AllocError> for Problem<'a> {
+    ghost use Rattle.std.specs.Prelude.{◌≡◌};
+    ghost use Rattle.script.specs.declared.problem.Problem.TheVariants.{NoMemory};
+
+    ghost from_gives = { λ _ problem. problem ≡ NoMemory };
+
+    fn from(_error: AllocError) -> Problem<'a> {
+        Problem::NoMemory
     }
 }

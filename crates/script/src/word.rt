@@ -1,6 +1,5 @@
 // The words that a line may begin with.
-ghost use Rattle.std.specs.Prelude.{◌≡◌, MatchOption, ◌≢◌};
-ghost use Rattle.script.specs.Words.{spelling};
+use crate::problem::Problem;
 
 #[derive(Clone, Copy)]
 pub enum SettingWord {
@@ -30,27 +29,31 @@ pub enum Word {
     Call(CallWord),
 }
 
-impl Word {
-    // The word that is spelled so.
-    pub fn of(text: &str) -> Option<Word>
-        ensures { MatchOption result ((w : Word) → text.now ≢ spelling w) (λ w. text.now ≡ spelling w) }
-    {
+// The word that is spelled so.
+impl<'a> TryFrom<&'a str> for Word {
+    type Error = Problem<'a>;
+
+    ghost use Rattle.script.specs.Words.{Spells, spelling};
+
+    ghost try_from_gives = { Spells spelling };
+
+    fn try_from(text: &'a str) -> Result<Word, Problem<'a>> {
         match text {
-            "scheduler" => Some(Word::Setting(SettingWord::Scheduler)),
-            "site" => Some(Word::Setting(SettingWord::Site)),
-            "book" => Some(Word::Setting(SettingWord::Book)),
-            "show" => Some(Word::Setting(SettingWord::Show)),
-            "greet" => Some(Word::Call(CallWord::Greet)),
-            "take" => Some(Word::Call(CallWord::Take)),
-            "send" => Some(Word::Call(CallWord::Send)),
-            "claim" => Some(Word::Call(CallWord::Claim)),
-            "answer" => Some(Word::Call(CallWord::Answer)),
-            "shut" => Some(Word::Call(CallWord::Shut)),
-            "offers" => Some(Word::Call(CallWord::Offers)),
-            "pick" => Some(Word::Call(CallWord::Pick)),
-            "fetch" => Some(Word::Call(CallWord::Fetch)),
-            "block" => Some(Word::Call(CallWord::Block)),
-            _ => None,
+            "scheduler" => Ok(Word::Setting(SettingWord::Scheduler)),
+            "site" => Ok(Word::Setting(SettingWord::Site)),
+            "book" => Ok(Word::Setting(SettingWord::Book)),
+            "show" => Ok(Word::Setting(SettingWord::Show)),
+            "greet" => Ok(Word::Call(CallWord::Greet)),
+            "take" => Ok(Word::Call(CallWord::Take)),
+            "send" => Ok(Word::Call(CallWord::Send)),
+            "claim" => Ok(Word::Call(CallWord::Claim)),
+            "answer" => Ok(Word::Call(CallWord::Answer)),
+            "shut" => Ok(Word::Call(CallWord::Shut)),
+            "offers" => Ok(Word::Call(CallWord::Offers)),
+            "pick" => Ok(Word::Call(CallWord::Pick)),
+            "fetch" => Ok(Word::Call(CallWord::Fetch)),
+            "block" => Ok(Word::Call(CallWord::Block)),
+            _ => Err(Problem::UnknownWord(text)),
         }
     }
 }

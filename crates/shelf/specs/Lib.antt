@@ -1,5 +1,4 @@
 pub mod Laws
 pub mod Refusals
 pub mod Shelves
-pub mod Steps
 pub mod Views

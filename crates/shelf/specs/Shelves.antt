@@ -1,8 +1,11 @@
 -- Shelves: entries laid out one after another in a row of octets.
-use Rattle.std.specs.Prelude.{ℕ, zero, suc, ◌+◌, ◌*◌, Bool, true, false, cond, ◌&&◌, List, [], ◌∷◌, length, take, drop, Some, None, Option, nat_le, nat_lt, slice_index, slice_index_or}
+use Rattle.std.specs.Prelude.{ℕ, zero, suc, ◌+◌, Bool, true, false, cond, ◌&&◌, List, [], ◌∷◌, length, take, drop, Some, None, Ok, Err, Option, Result, nat_le, nat_lt, slice_index_or}
+use Rattle.std.specs.Int.{from_be_bytes, w32}
 use Rattle.std.specs.Str.{bytes_eq}
 use Rattle.site.specs.declared.span.Span.{Span}
 use Rattle.site.specs.Spans.{span_at, within}
+use Rattle.shelf.specs.declared.refusal.Refusal.{Refusal}
+use Rattle.shelf.specs.declared.refusal.Refusal.TheVariants.{MalformedShelf}
 
 -- An entry at the front of a row: its path, its content, and the row after it.
 pub record Entry : Type 0 where
@@ -10,9 +13,9 @@ pub record Entry : Type 0 where
   pub content : List ℕ
   pub rest : List ℕ
 
--- Four octets as a number, the most significant first.
+-- The first four octets of a row as a number, the most significant first.
 abbrev pub size_of : List ℕ → ℕ
-size_of four = slice_index four 0 * 16777216 + slice_index four 1 * 65536 + slice_index four 2 * 256 + slice_index four 3
+size_of row = from_be_bytes w32 (take 4 row)
 
 -- The entry at the front of a row: the path's length n (1 octet, 1 to 64), n octets of path, the size (4 octets, top bit 0), and as many octets of content as the size says.
 abbrev pub entry_of : List ℕ → Option Entry
@@ -45,6 +48,10 @@ well_formed row = along true false (λ e later. later) row
 -- The entries of a row, up to where no entry can be read.
 abbrev pub entries_of : List ℕ → List Entry
 entries_of row = along [] [] (λ e later. e ∷ later) row
+
+-- The same, and where no entry can be read the refusal, as the last.
+abbrev pub items_of : List ℕ → List (Result Entry Refusal)
+items_of row = along [] (Err MalformedShelf ∷ []) (λ e later. Ok e ∷ later) row
 
 -- The content of the first entry with a path.
 abbrev pub first_of : List ℕ → List Entry → Option (List ℕ)

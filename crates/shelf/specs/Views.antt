@@ -1,9 +1,12 @@
 -- What values that borrow point to.
-use Rattle.std.specs.Prelude.{ℕ, ◌+◌, List, take, drop}
-use Rattle.shelf.specs.declared.shelf.Head.{Head}
-use Rattle.shelf.specs.Shelves.{Entry}
+use Rattle.std.specs.Prelude.{Ok, Err, Result}
+use Rattle.shelf.specs.declared.entries.Entry.{Entry}
+use Rattle.shelf.specs.declared.refusal.Refusal.{Refusal}
+use Rattle.shelf.specs.Shelves as shelves
 
--- The entry that a head at the front of a row tells of.
-abbrev pub view_head : List ℕ → Head → Entry
-view_head row h =
-    record { path = h.path.now; content = take h.size (drop h.start row); rest = drop (h.start + h.size) row }
+abbrev pub view_entry : Entry → shelves.Entry
+view_entry e = record { path = e.path.now; content = e.content.now; rest = e.rest.now }
+
+abbrev pub view_item : Result Entry Refusal → Result shelves.Entry Refusal
+view_item (Ok e) = Ok (view_entry e)
+view_item (Err r) = Err r

@@ -6,12 +6,8 @@ ghost use Rattle.site.specs.Sites.{Filled};
 pub(crate) fn copy_from(held: &[u8], offset: usize, buffer: &mut [u8]) -> usize
     ensures { Filled held.now offset buffer.old buffer.new result }
 {
-    if offset >= held.len() {
-        return 0;
-    }
-    let (_, rest) = held.split_at(offset);
+    let rest = held.get(offset..).unwrap_or_default();
     let n = rest.len().min(buffer.len());
-    let (part, _) = rest.split_at(n);
-    buffer[0..n].copy_from_slice(part);
+    buffer[..n].copy_from_slice(&rest[..n]);
     n
 }

@@ -1,4 +1,5 @@
-// Whoever lends a row of octets: most often a slice.
+// Whoever lends a row of octets: most often a slice. `AsRef` does not promise that each call lends the same octets, which a
+// shelf needs.
 ghost use Rattle.std.specs.Prelude.{◌≡◌, ℕ, List};
 
 pub trait Lends {

@@ -2,6 +2,7 @@
 #![tactic(auto)]
 
 mod copy;
+mod entries;
 pub mod lends;
 pub mod refusal;
 pub mod shelf;

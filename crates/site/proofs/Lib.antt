@@ -1,4 +1,3 @@
-pub mod Found
 mod Liner
 pub mod Parting
 mod Reading

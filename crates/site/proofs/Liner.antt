@@ -1,7 +1,6 @@
 -- The octets of the line, one by one and in parts.
 use Rattle.std.specs.Prelude.{◌≡◌, ℕ, ◌+◌, ◌-◌, ◌%◌, ◌<◌, ◌≤◌, min, List, ◌++◌, length, take, drop, slice_index, refl}
 use Rattle.std.proofs.Common.{sym, ap, ◌∙◌, arith, length-take, length-drop}
-use borrow.Rule.Slice.PartMut.{post_of}
 use Rattle.std.proofs.lemmas.List.FromFn.{get_or-map-range_with_len}
 use Rattle.std.proofs.lemmas.List.{ext_get_or, get_or-take, get_or-drop}
 use Rattle.site.specs.declared.span.Span.{Span}
@@ -19,7 +18,7 @@ line_is o xs each =
     ext_get_or 0 xs (line_from o (length xs)) (sym (length_line o (length xs)))
     (λ k low. each k low ∙ sym (line_at o (length xs) k low))
 
-pub line_part : (o n r : ℕ) → o + r ≤ n → take r (drop o (line_from 0 n)) ≡ line_from o r
+pub line_part : (o n r : ℕ) → r ≤ n - o → take r (drop o (line_from 0 n)) ≡ line_from o r
 line_part o n r inside =
     ext_get_or 0 (take r (drop o (line_from 0 n))) (line_from o r) (long ∙ sym (length_line o r))
     (λ k low. let below : k < r = omega (arith, long) in
@@ -31,19 +30,16 @@ line_part o n r inside =
 
 -- A buffer whose front was written with the line from the offset on.
 pub fills_line : (found span : Span) (offset n : ℕ) (before written : List ℕ)
-    → found ≡ span → offset < found.count → n ≡ min (length before) (found.count - offset)
-    → written ≡ line_from offset (length (take (n - 0) before))
-    → Filled (line_of span) offset before (written ++ post_of 0 (n - 0) before) n
-fills_line found span offset n before written same inside is wrote =
+    → found ≡ span → n ≡ min (length before) (found.count - offset) → written ≡ line_from offset (length (take n before))
+    → Filled (line_of span) offset before (written ++ drop n before) n
+fills_line found span offset n before written same is wrote =
     record {
       value = is ∙ ap (λ m. min (length before) (m - offset)) (counts ∙ sym (length_line 0 span.count));
-      items =
-          ap (λ xs. xs ++ post_of 0 (n - 0) before) (wrote ∙ ap (line_from offset) front ∙ sym (line_part offset span.count n (omega (arith, counts))))
-          ∙ ap (λ m. take n (drop offset (line_of span)) ++ drop m before) (omega arith);
+      items = ap (λ xs. xs ++ drop n before) (wrote ∙ ap (line_from offset) front ∙ sym (line_part offset span.count n (omega (arith, counts))));
     }
   where
     counts : found.count ≡ span.count
     counts = ap (λ (s : Span). s.count) same
 
-    front : length (take (n - 0) before) ≡ n
+    front : length (take n before) ≡ n
     front = simp length-take (omega arith)

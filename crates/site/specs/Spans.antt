@@ -15,6 +15,10 @@ capped span = record { start = span.start; count = min span.count 2147483647 }
 abbrev pub span_at : List Span → ℕ → Span
 span_at spans place = cond (nat_lt place 16) (capped (slice_index_or spans place nothing)) nothing
 
+-- No place holds anything.
+abbrev pub HoldsNothing : List Span → Type 0
+HoldsNothing spans = (place : ℕ) → span_at spans place ≡ nothing
+
 -- The octets of a span of a row, cut at the row's end.
 abbrev pub within : Span → List ℕ → List ℕ
 within span row = take span.count (drop span.start row)

@@ -7,23 +7,18 @@ fn digit(c: u8) -> Option<u32>
     ensures value { result ≡ digit_of c }
     ensures bound { IfSome result (λ d. d ≤ 9) }
 {
-    match c {
-        b'0'..=b'9' => Some(u32::from(c - b'0')),
-        _ => None,
-    }
+    char::from(c).to_digit(10)
 }
 
-// The value of at most nine digits.
+// The value of at most nine digits, read one by one: `parse` would also take a sign.
+#[tactic(auto, using(crate::proofs::Reading::read_end, crate::proofs::Reading::read_other))]
 fn digits(text: &[u8]) -> Option<u32>
     requires { length text.now ≤ 9 }
     ensures { result ≡ read_on 0 text.now }
 {
-    let mut value = 0u32;
+    let mut value = 0;
     for c in text {
-        let Some(d) = digit(*c) else {
-            return None;
-        };
-        value = value * 10 + d;
+        value = value * 10 + digit(*c)?;
     }
     Some(value)
 }
@@ -33,8 +28,7 @@ pub fn number(text: &[u8]) -> Option<u32>
     ensures { result ≡ number_of text.now }
 {
     match text {
-        [] => None,
-        [b'0', _, ..] => None,
+        [] | [b'0', _, ..] => None,
         _ if text.len() > 9 => None,
         _ => digits(text),
     }

@@ -1,7 +1,7 @@
 // The line test: a site that names /line/N for each N up to a million.
 ghost use Rattle.std.specs.Prelude.{◌≡◌, ℕ, ◌+◌, ◌%◌, ◌^◌, ◌<◌, ◌≤◌, length, IfSome};
 ghost use Rattle.site.specs.Sites.{Filled, Opened};
-ghost use Rattle.site.specs.Spans.{Finds, nothing, span_at};
+ghost use Rattle.site.specs.Spans.{Finds, HoldsNothing};
 ghost use Rattle.site.specs.Lines.{line_from, line_held, line_length, line_named, line_of};
 ghost use Rattle.site.specs.Laws.{line_bounded, line_held_beyond, line_held_short};
 
@@ -21,7 +21,7 @@ pub struct LineTest {
 impl LineTest {
     // A line test whose places hold nothing.
     pub fn new() -> LineTest
-        ensures { (place : ℕ) → span_at result.table.spans place ≡ nothing }
+        ensures { HoldsNothing result.table.spans }
     {
         let table = Table::new();
         LineTest { table }
@@ -33,14 +33,11 @@ fn line_length(path: &[u8]) -> Option<u32>
     ensures value { result ≡ line_length path.now }
     ensures bound { IfSome result (λ n. n ≤ 1000000) }
 {
-    let Some(digits) = path.strip_prefix(b"/line/") else {
-        return None;
-    };
-    let n = number(digits)?;
-    if n <= LONGEST { Some(n) } else { None }
+    number(path.strip_prefix(b"/line/")?).filter(|n| *n <= LONGEST)
 }
 
 // The span of the line that a path names.
+#[tactic(auto, using(crate::specs::Laws::length_line))]
 fn line_span(path: &[u8]) -> Option<Span>
     ensures { Finds line_of result (line_named path.now) }
 {
@@ -56,12 +53,13 @@ fn line_octet(offset: usize) -> u8
 }
 
 // Writes the octets of the line from the offset on.
+#[tactic(auto, using(crate::proofs::Liner::line_is))]
 fn write_line(offset: usize, buffer: &mut [u8])
     requires { offset + length buffer.old < 2 ^ 64 }
     ensures { buffer.new ≡ line_from offset (length buffer.old) }
 {
-    for i in 0..buffer.len() {
-        buffer[i] = line_octet(offset + i);
+    for (i, octet) in buffer.iter_mut().enumerate() {
+        *octet = line_octet(offset + i);
     }
 }
 
@@ -76,21 +74,13 @@ impl Site for LineTest {
 
     ghost beyond = { λ s place high. line_held_beyond s.table.spans place high };
 
-    fn open(&mut self, place: usize, path: &[u8]) -> Option<u32>
-        ensures { Opened {W = LineTest} (λ s. line_named) (λ s. line_held s.table.spans) self.old self.new place path.now result }
-    {
+    fn open(&mut self, place: usize, path: &[u8]) -> Option<u32> {
         self.table.hold(place, line_span(path))
     }
 
-    fn fill(&self, place: usize, offset: usize, buffer: &mut [u8]) -> usize
-        ensures { Filled (line_held self.now.table.spans place) offset buffer.old buffer.new result }
-    {
-        let count = self.table.span_at(place).count as usize;
-        if offset >= count {
-            return 0;
-        }
-        let n = buffer.len().min(count - offset);
-        write_line(offset, &mut buffer[0..n]);
+    fn fill(&self, place: usize, offset: usize, buffer: &mut [u8]) -> usize {
+        let n = self.table.span_at(place).room(offset, buffer);
+        write_line(offset, &mut buffer[..n]);
         n
     }
 }

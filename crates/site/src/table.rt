@@ -1,7 +1,7 @@
 // What each of sixteen places holds, as a span.
 ghost use Rattle.std.specs.Prelude.{◌≡◌, ℕ, ◌<◌, ◌≤◌, None, ◌≢◌};
 ghost use Rattle.std.specs.Option.{option_map, unwrap_or};
-ghost use Rattle.site.specs.Spans.{capped, nothing, span_at};
+ghost use Rattle.site.specs.Spans.{HoldsNothing, capped, nothing, span_at};
 
 use super::span::Span;
 
@@ -11,24 +11,18 @@ pub const PLACES: usize = 16;
 // The most octets that a place holds.
 const MOST: u32 = 2_147_483_647;
 
-// The span of nothing.
-fn no_span() -> Span
-    ensures { result ≡ nothing }
-{
-    Span { start: 0, count: 0 }
-}
-
+// The spans lie in the table itself, since this crate allocates nothing.
 #[derive(Clone, Copy)]
 pub struct Table {
-    spans: [Span; 16],
+    spans: [Span; PLACES],
 }
 
 impl Table {
     // Every place holds nothing.
     pub fn new() -> Table
-        ensures { (place : ℕ) → span_at result.spans place ≡ nothing }
+        ensures { HoldsNothing result.spans }
     {
-        let spans = [no_span(); 16];
+        let spans = [Span::default(); PLACES];
         Table { spans }
     }
 
@@ -36,13 +30,10 @@ impl Table {
     pub fn span_at(&self, place: usize) -> Span
         ensures { result ≡ span_at self.now.spans place }
     {
-        if place >= PLACES {
-            return no_span();
-        }
-        let span = self.spans[place];
+        let span = self.spans.get(place).copied().unwrap_or_default();
         Span {
-            start: span.start,
             count: span.count.min(MOST),
+            ..span
         }
     }
 
@@ -57,15 +48,7 @@ impl Table {
         if place >= PLACES {
             return None;
         }
-        match found {
-            None => {
-                self.spans[place] = no_span();
-                None
-            }
-            Some(span) => {
-                self.spans[place] = span;
-                Some(span.count)
-            }
-        }
+        self.spans[place] = found.unwrap_or_default();
+        found.map(|span| span.count)
     }
 }

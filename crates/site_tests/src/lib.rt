@@ -15,12 +15,9 @@ mod tests {
     const SHEETS: &[u8] =
         b"\x02/a\x00\x00\x00\x03one\x02/a\x00\x00\x00\x03two\x04/a;b\x00\x00\x00\x00";
 
-    // What a row is refused with as a shelf; 0 where it is one.
-    fn refused(row: &[u8]) -> u8 {
-        match Shelf::new(row) {
-            Ok(_) => 0,
-            Err(refusal) => refusal.number(),
-        }
+    // What a row is refused with as a shelf, unless it is one.
+    fn refused(row: &[u8]) -> Option<u8> {
+        Shelf::new(row).err().map(u8::from)
     }
 
     #[test]
@@ -49,30 +46,28 @@ mod tests {
 
     #[test]
     fn malformed_shelves_are_refused_with_50(rt: HostRuntime) {
-        assert_eq!(rt; refused(b""), 0);
-        assert_eq!(rt; refused(SHEETS), 0);
-        assert_eq!(rt; refused(b"\x00\x00\x00\x00\x00"), 50, "path length 0");
-        assert_eq!(rt; refused(&[65u8; 128]), 50, "path length 65");
-        assert_eq!(rt; refused(b"\x02/"), 50, "cut path");
-        assert_eq!(rt; refused(b"\x02/a\x00\x00\x00"), 50, "cut size");
-        assert_eq!(rt; refused(b"\x02/a\x80\x00\x00\x00"), 50, "top bit set");
+        assert_eq!(rt; refused(b""), None);
+        assert_eq!(rt; refused(SHEETS), None);
+        assert_eq!(rt; refused(b"\x00\x00\x00\x00\x00"), Some(50), "path length 0");
+        assert_eq!(rt; refused(&[65u8; 128]), Some(50), "path length 65");
+        assert_eq!(rt; refused(b"\x02/"), Some(50), "cut path");
+        assert_eq!(rt; refused(b"\x02/a\x00\x00\x00"), Some(50), "cut size");
+        assert_eq!(rt; refused(b"\x02/a\x80\x00\x00\x00"), Some(50), "top bit set");
         assert_eq!(rt;
             refused(b"\x02/a\x00\x00\x00\x03on"),
-            50,
+            Some(50),
             "content past the end"
         );
         assert_eq!(rt;
             refused(b"\x02/a\x00\x00\x00\x03one!"),
-            50,
+            Some(50),
             "one octet too many"
         );
     }
 
     #[test]
     fn the_first_of_equal_paths_wins(rt: HostRuntime) -> Result<(), Fail> {
-        let Ok(mut shelf) = Shelf::new(SHEETS) else {
-            return Err(Fail::new("refused"));
-        };
+        let mut shelf = Shelf::new(SHEETS).map_err(|_| Fail::new("refused"))?;
         assert_eq!(rt; shelf.open(0, b"/a"), Some(3));
         let mut buffer = [0u8; 4];
         assert_eq!(rt; shelf.fill(0, 0, &mut buffer), 3);
@@ -101,9 +96,7 @@ mod tests {
     fn a_path_with_a_semicolon_is_reached_on_a_shelf_only_by_a_range(
         rt: HostRuntime,
     ) -> Result<(), Fail> {
-        let Ok(shelf) = Shelf::new(SHEETS) else {
-            return Err(Fail::new("refused"));
-        };
+        let shelf = Shelf::new(SHEETS).map_err(|_| Fail::new("refused"))?;
         let mut site = Slice::new(Slice::new(shelf));
         assert_eq!(rt; site.open(0, b"/a;b"), None);
         assert_eq!(rt; site.open(0, b"/a;1-9;1-1"), Some(1));
@@ -123,9 +116,7 @@ mod tests {
     #[test]
     fn a_fetch_tells_count_ends_and_checksum(rt: HostRuntime) -> Result<(), Fail> {
         let mut site = Slice::new(LineTest::new());
-        let Some(told) = fetch(&mut site, 0, b"/line/5000") else {
-            return Err(Fail::new("unnamed"));
-        };
+        let told = fetch(&mut site, 0, b"/line/5000").ok_or_else(|| Fail::new("unnamed"))?;
         assert_eq!(rt; told.count, 5000);
         assert_eq!(rt; told.first, Some(0));
         assert_eq!(rt; told.last, Some(230));

@@ -1,4 +1,3 @@
 mod Cuts
-mod Ranges
 mod Sliced
 mod Tallies

@@ -1,78 +1,56 @@
--- What is told of octets, octet by octet and piece by piece.
-use Rattle.std.proofs.Common.{◌≡◌, ℕ, ◌+◌, ◌-◌, ◌<◌, ◌≤◌, List, [], ◌∷◌, ◌++◌, reverse, length, get_or, take, drop, Some, None, sym, refl, ap, ◌∙◌, append_assoc, arith, length-drop, length-take}
-use Rattle.std.proofs.lemmas.List.{drop-drop, drop-take, reverse-append, take_all, take-append-drop, take_more, take-take, take_at}
-use Rattle.std.proofs.lemmas.List.Sums.{fold_push}
+-- What is told of octets, piece by piece.
+use Rattle.std.proofs.Common.{◌≡◌, ℕ, ◌+◌, ◌-◌, List, [], ◌∷◌, ◌++◌, length, get_or, take, drop, Some, sym, refl, ap, ◌∙◌, arith, length-append, length-take, length-drop}
+use Rattle.std.specs.List.{slice_get}
+use Rattle.std.specs.Option.{option_or}
+use Rattle.std.proofs.Math.Seq.{take-add}
+use Rattle.std.proofs.lemmas.List.{append-nil, drop-drop, get_or-append_right, take_at}
+use Rattle.std.proofs.lemmas.List.Sums.{fold-append}
+use Rattle.std.proofs.lemmas.Option.{slice_get-get_or}
+use Rattle.site.specs.Sites.{Filled}
 use Rattle.slices.specs.declared.survey.Tally.{Tally}
-use Rattle.slices.specs.Surveys.{ReadTo, adler_step, adler_sums, closed, head_of, or_else, stepped, survey_of, tally_of}
+use Rattle.slices.specs.Surveys.{ReadTo, adler_step, adler_sums, joined, tally_of}
 
-head_push : (xs : List ℕ) (x : ℕ) → head_of (xs ++ x ∷ []) ≡ or_else (head_of xs) x
-head_push [] x = refl
-head_push (y ∷ ys) x = refl
+first_append : (read piece : List ℕ) → slice_get (read ++ piece) 0 ≡ option_or (slice_get read 0) (slice_get piece 0)
+first_append [] piece = refl
+first_append (x ∷ xs) piece = refl
 
-last_push : (xs : List ℕ) (x : ℕ) → head_of (reverse (xs ++ x ∷ [])) ≡ Some x
-last_push xs x = ap head_of (reverse-append xs (x ∷ []))
+last_append : (read piece : List ℕ) → slice_get (read ++ piece) (length (read ++ piece) - 1) ≡ option_or (slice_get piece (length piece - 1)) (slice_get read (length read - 1))
+last_append read [] = ap (λ xs. slice_get xs (length xs - 1)) (append-nil read)
+last_append read (y ∷ ys) =
+    slice_get-get_or (read ++ y ∷ ys) (length (read ++ y ∷ ys) - 1) 0 (omega (arith, long))
+    ∙ ap Some (get_or-append_right read (y ∷ ys) (length read) (length (read ++ y ∷ ys) - 1) 0 refl (omega (arith, long)) ∙ ap (λ i. get_or (y ∷ ys) i 0) (omega (arith, long)))
+    ∙ sym (ap (λ o. option_or o (slice_get read (length read - 1))) (slice_get-get_or (y ∷ ys) (length (y ∷ ys) - 1) 0 (omega arith)))
+  where
+    long : length (read ++ y ∷ ys) ≡ length read + length (y ∷ ys)
+    long = length-append read (y ∷ ys)
 
-sums_push : (xs : List ℕ) (x : ℕ) → adler_sums (xs ++ x ∷ []) ≡ adler_step ((adler_sums xs).0, (adler_sums xs).1) x
+tally_append : (read piece : List ℕ) → tally_of (read ++ piece) ≡ joined (tally_of read) piece
 unfolding adler_sums
-sums_push xs x = fold_push adler_step (1, 0) xs x
-
-pub tally_push : (xs : List ℕ) (x : ℕ) → tally_of (xs ++ x ∷ []) ≡ stepped (tally_of xs) x
-tally_push xs x =
-    let h = head_push xs x in let l = last_push xs x in
-    let a = ap (λ s. s.0) (sums_push xs x) in let b = ap (λ s. s.1) (sums_push xs x) in
+tally_append read piece =
+    let count = length-append read piece in
+    let first = first_append read piece in
+    let last = last_append read piece in
+    let sums = fold-append adler_step (1, 0) read piece in
     cc
 
-pub tally_more : (read piece : List ℕ) (i : ℕ) (sum : Tally) → i < length piece → sum ≡ tally_of (read ++ take i piece)
-    → stepped sum (get_or piece i 0) ≡ tally_of (read ++ take (i + 1) piece)
-tally_more read piece i sum low is =
-    ap (λ t. stepped t (get_or piece i 0)) is
-    ∙ sym (tally_push (read ++ take i piece) (get_or piece i 0))
-    ∙ ap tally_of (append_assoc read (take i piece) (get_or piece i 0 ∷ []) ∙ ap (λ xs. read ++ xs) (sym (take_more piece i 0 low)))
-
-pub tally_none : (xs : List ℕ) (n : ℕ) → n ≡ 0 → ◌≡◌ {A = Tally} (record { first = None; last = None; low = 1; high = 0 }) (tally_of (take n xs))
-unfolding adler_sums
-tally_none xs n is = ap (λ m. tally_of (take m xs)) (sym is)
-
 -- A piece that was filled from where the reading had come to goes on with it.
-pub read_on : (held rest after : List ℕ) (offset at n : ℕ) → offset ≤ at → n ≤ length held - at → after ≡ take n (drop at held) ++ rest
-    → take (at - offset) (drop offset held) ++ take (n - 0) after ≡ take (at + n - offset) (drop offset held)
-read_on held rest after offset at n low few filled =
-    ap (λ xs. take m (drop offset held) ++ xs) piece
-    ∙ ap (λ xs. take m (drop offset held) ++ take n xs) (ap (λ k. drop k held) reach ∙ sym (drop-drop m offset held))
-    ∙ front m n (drop offset held)
-    ∙ ap (λ k. take k (drop offset held)) sums
+pub read_more : (held before after : List ℕ) (offset n : ℕ) (tally : Tally) → ReadTo held offset tally → Filled held (offset + tally.count) before after n
+    → ReadTo held offset (joined tally (take n after))
+read_more held before after offset n tally read filled =
+    record {
+      inside = omega (arith, long, filled.value, read.inside);
+      items =
+          ap (λ t. joined t (take n after)) read.items
+          ∙ ap (joined (tally_of (take tally.count (drop offset held)))) piece
+          ∙ sym (tally_append (take tally.count (drop offset held)) (take n (drop tally.count (drop offset held))))
+          ∙ ap tally_of (sym (take-add tally.count n (drop offset held)) ∙ ap (λ m. take (tally.count + m) (drop offset held)) (sym long));
+    }
   where
-    m : ℕ
-    m = at - offset
+    piece : take n after ≡ take n (drop tally.count (drop offset held))
+    piece =
+        ap (take n) filled.items
+        ∙ take_at (take n (drop (offset + tally.count) held)) (drop n before) n (simp (length-take, length-drop) (omega (arith, filled.value)))
+        ∙ ap (take n) (sym (drop-drop tally.count offset held))
 
-    reach : at ≡ offset + (at - offset)
-    reach = omega arith
-
-    sums : at - offset + n ≡ at + n - offset
-    sums = omega arith
-
-    long : length (take n (drop at held)) ≡ n
-    long = simp (length-take, length-drop) (omega arith)
-
-    piece : take (n - 0) after ≡ take n (drop at held)
-    piece = ap (take (n - 0)) filled ∙ take_at (take n (drop at held)) rest (n - 0) (long ∙ whole)
-      where
-        whole : n ≡ n - 0
-        whole = omega arith
-
-    front : (a b : ℕ) (xs : List ℕ) → take a xs ++ take b (drop a xs) ≡ take (a + b) xs
-    front a b xs =
-        ap (λ ys. take a xs ++ ys) (sym (drop-take a b xs))
-        ∙ ap (λ ys. ys ++ drop a (take (a + b) xs)) (sym (take-take a (a + b) xs (omega arith)))
-        ∙ take-append-drop a (take (a + b) xs)
-
--- At the end all has been read, so the survey of what was read is that of all that is held.
-pub survey_all : (held : List ℕ) (offset at : ℕ) (tally : Tally) → ReadTo held offset at tally → length held ≤ at → closed tally (at - offset) ≡ survey_of (drop offset held)
-survey_all held offset at tally read past =
-    ap (λ t. closed t (at - offset)) (read.items ∙ ap tally_of all) ∙ ap (closed (tally_of (drop offset held))) count
-  where
-    all : take (at - offset) (drop offset held) ≡ drop offset held
-    all = take_all (at - offset) (drop offset held) (simp length-drop (omega arith))
-
-    count : at - offset ≡ length (drop offset held)
-    count = simp length-drop (omega arith)
+    long : length (take n after) ≡ n
+    long = ap length piece ∙ simp (length-take, length-drop) (omega (arith, filled.value))

@@ -1,12 +1,8 @@
 -- What is told of octets: how many they are, the first, the last, and a checksum.
-use Rattle.std.specs.Prelude.{◌≡◌, ℕ, ◌+◌, ◌-◌, ◌*◌, ◌%◌, ◌<◌, ◌≤◌, List, [], ◌∷◌, reverse, length, take, drop, Some, None, fold, Option}
+use Rattle.std.specs.Prelude.{◌≡◌, ℕ, ◌+◌, ◌-◌, ◌*◌, ◌%◌, ◌≤◌, List, length, take, drop, fold, slice_get}
+use Rattle.std.specs.Option.{option_or}
 use Rattle.slices.specs.declared.survey.Survey.{Survey}
 use Rattle.slices.specs.declared.survey.Tally.{Tally}
-
--- The first octet, if there is one.
-abbrev pub head_of : List ℕ → Option ℕ
-head_of [] = None
-head_of (x ∷ xs) = Some x
 
 -- The two sums of Adler-32: of the octets, from 1 on, and of the first sum after each octet, from 0 on; both modulo 65521.
 abbrev pub adler_step : ℕ × ℕ → ℕ → ℕ × ℕ
@@ -17,33 +13,28 @@ adler_sums octets = fold adler_step (1, 0) octets
 
 -- What is known of octets while they are read.
 abbrev pub tally_of : List ℕ → Tally
-tally_of octets = record { first = head_of octets; last = head_of (reverse octets); low = (adler_sums octets).0; high = (adler_sums octets).1 }
+tally_of octets =
+    record { count = length octets; first = slice_get octets 0; last = slice_get octets (length octets - 1); sums = adler_sums octets }
 
--- The tally after one more octet.
-abbrev pub or_else : Option ℕ → ℕ → Option ℕ
-or_else None x = Some x
-or_else (Some y) x = Some y
+-- The tally of what was read before and of a piece.
+abbrev pub joined : Tally → List ℕ → Tally
+joined t piece =
+    record {
+      count = t.count + length piece;
+      first = option_or t.first (slice_get piece 0);
+      last = option_or (slice_get piece (length piece - 1)) t.last;
+      sums = fold adler_step t.sums piece;
+    }
 
-abbrev pub stepped : Tally → ℕ → Tally
-stepped t x =
-    record { first = or_else t.first x; last = Some x; low = (adler_step (t.low, t.high) x).0; high = (adler_step (t.low, t.high) x).1 }
-
--- What is told at the end of a tally of so many octets: the checksum joins the two sums.
-abbrev pub closed : Tally → ℕ → Survey
-closed t n = record { count = n; first = t.first; last = t.last; checksum = t.high * 65536 + t.low }
+-- What is told at the end of a tally: the checksum joins the two sums.
+abbrev pub closed : Tally → Survey
+closed t = record { count = t.count; first = t.first; last = t.last; checksum = t.sums.1 * 65536 + t.sums.0 }
 
 -- What is told of octets. The checksum is Adler-32.
 abbrev pub survey_of : List ℕ → Survey
-survey_of octets = closed (tally_of octets) (length octets)
+survey_of octets = closed (tally_of octets)
 
--- The tally of what is held from the offset up to `at`.
-pub record ReadTo (held : List ℕ) (offset at : ℕ) (tally : Tally) : Type 0 where
-  pub onward : offset ≤ at
-  pub inside : at - offset ≤ length held - offset
-  pub items : tally ≡ tally_of (take (at - offset) (drop offset held))
-
--- One piece was read: the tally goes on by it. Without one all has been read.
-abbrev pub PieceIs : List ℕ → ℕ → ℕ → Tally → Option (Tally × ℕ) → Type 0
-PieceIs held offset at tally None = ReadTo held offset at tally → closed tally (at - offset) ≡ survey_of (drop offset held)
-PieceIs held offset at tally (Some p) =
-    (0 < p.1) × (at + p.1 ≤ 2147483647) × (at + p.1 ≤ length held) × (ReadTo held offset at tally → ReadTo held offset (at + p.1) p.0)
+-- The tally of the front of what is held from the offset on.
+pub record ReadTo (held : List ℕ) (offset : ℕ) (tally : Tally) : Type 0 where
+  pub inside : tally.count ≤ length held - offset
+  pub items : tally ≡ tally_of (take tally.count (drop offset held))

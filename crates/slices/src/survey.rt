@@ -1,8 +1,8 @@
 // Reading what a place holds to its end, in pieces, and telling what was read.
-ghost use Rattle.std.specs.Prelude.{◌≡◌, ℕ, ◌+◌, ◌%◌, ◌<◌, ◌≤◌, List, ◌++◌, drop, ◌≢◌};
+ghost use Rattle.std.specs.Prelude.{◌≡◌, ℕ, ◌+◌, ◌%◌, ◌<◌, ◌^◌, List, [], drop, length, ◌≢◌};
 ghost use Rattle.std.specs.Option.{option_map};
 ghost use Rattle.site.specs.Sites.{at_place, octets_of};
-ghost use Rattle.slices.specs.Surveys.{PieceIs, closed, stepped, survey_of, tally_of};
+ghost use Rattle.slices.specs.Surveys.{adler_step, closed, joined, survey_of, tally_of};
 
 use site::site::Site;
 
@@ -15,91 +15,81 @@ pub struct Survey {
     pub checksum: u32,
 }
 
-// What is known of the octets read so far: `low` and `high` are the two sums of Adler-32.
+// The two sums of Adler-32 after one more octet.
+fn adler_step(sums: (u16, u16), octet: u8) -> (u16, u16)
+    ensures { result ≡ adler_step sums octet }
+{
+    let (low, high) = sums;
+    let low = ((u32::from(low) + u32::from(octet)) % 65521) as u16;
+    let high = ((u32::from(high) + u32::from(low)) % 65521) as u16;
+    (low, high)
+}
+
+// What is known of the octets read so far: how many they are, the first, the last, and the two sums of Adler-32.
 #[derive(Clone, Copy)]
 struct Tally {
+    count: usize,
     first: Option<u8>,
     last: Option<u8>,
-    low: u16,
-    high: u16,
+    sums: (u16, u16),
 }
 
-// The tally after one more octet.
-fn step(tally: Tally, octet: u8) -> Tally
-    ensures { result ≡ stepped tally octet }
-{
-    let low = ((u32::from(tally.low) + u32::from(octet)) % 65521) as u16;
-    let high = ((u32::from(tally.high) + u32::from(low)) % 65521) as u16;
-    let first = match tally.first {
-        None => Some(octet),
-        Some(x) => Some(x),
-    };
-    Tally {
-        first,
-        last: Some(octet),
-        low,
-        high,
+impl Tally {
+    // The tally of no octets.
+    #[tactic(auto, unfolding(crate::specs::Surveys::adler_sums))]
+    fn new() -> Tally
+        ensures { result ≡ tally_of [] }
+    {
+        Tally {
+            count: 0,
+            first: None,
+            last: None,
+            sums: (1, 0),
+        }
     }
-}
 
-// The tally after a piece.
-fn absorb(tally: Tally, piece: &[u8]) -> Tally
-    ensures { (read : List ℕ) → tally ≡ tally_of read → result ≡ tally_of (read ++ piece.now) }
-{
-    let mut sum = tally;
-    for octet in piece {
-        sum = step(sum, *octet);
+    // The tally after a piece.
+    fn absorb(self, piece: &[u8]) -> Tally
+        requires { self.count + length piece.now < 2 ^ 64 }
+        ensures { result ≡ joined self piece.now }
+    {
+        Tally {
+            count: self.count + piece.len(),
+            first: self.first.or(piece.first().copied()),
+            last: piece.last().copied().or(self.last),
+            sums: piece
+                .iter()
+                .fold(self.sums, |sums, octet| adler_step(sums, *octet)),
+        }
     }
-    sum
-}
 
-// What is told at the end of a tally of `count` octets.
-fn close(tally: Tally, count: usize) -> Survey
-    ensures { result ≡ closed tally count }
-{
-    Survey {
-        count,
-        first: tally.first,
-        last: tally.last,
-        checksum: u32::from(tally.high) * 65536 + u32::from(tally.low),
+    // What is told at the end.
+    fn close(self) -> Survey
+        ensures { result ≡ closed self }
+    {
+        let (low, high) = self.sums;
+        Survey {
+            count: self.count,
+            first: self.first,
+            last: self.last,
+            checksum: u32::from(high) * 65536 + u32::from(low),
+        }
     }
-}
-
-// Reads one piece of what a place holds at `at`, and answers the tally after it and how many octets it has; none at the end.
-fn read_piece<S: Site>(
-    site: &S,
-    place: usize,
-    offset: usize,
-    at: usize,
-    tally: Tally,
-) -> Option<(Tally, usize)>
-    ensures { PieceIs (S.Site.holds site.now place) offset at tally result }
-{
-    let mut piece = [0u8; 1024];
-    let n = site.fill(place, at, &mut piece);
-    if n == 0 {
-        return None;
-    }
-    Some((absorb(tally, &piece[0..n]), n))
 }
 
 // What a place holds from an offset on, read to the end in pieces of 1,024 octets.
+#[tactic(auto, using(crate::proofs::Tallies::read_more))]
 pub fn survey_place<S: Site>(site: &S, place: usize, offset: usize) -> Survey
     ensures { result ≡ survey_of (drop offset (S.Site.holds site.now place)) }
 {
-    let mut tally = Tally {
-        first: None,
-        last: None,
-        low: 1,
-        high: 0,
-    };
-    let mut at = offset;
+    let mut tally = Tally::new();
+    let mut piece = [0u8; 1024];
     'pieces: loop {
-        let Some((sum, n)) = read_piece(site, place, offset, at, tally) else {
-            return close(tally, at - offset);
-        };
-        tally = sum;
-        at += n;
+        let n = site.fill(place, offset + tally.count, &mut piece);
+        if n == 0 {
+            return tally.close();
+        }
+        tally = tally.absorb(&piece[..n]);
     }
 }
 

@@ -1,18 +1,20 @@
 -- A connection that was just opened.
-use Rattle.std.specs.Prelude.{false, replicate, None}
+use Rattle.std.specs.Prelude.{false, [], replicate, None}
+use Rattle.arrayvec.specs.ArrayVec.{ArrayVec}
 use Rattle.state.specs.declared.engine.Core.{Core}
-use Rattle.state.specs.declared.engine.Phase.TheVariants.{Open}
-use Rattle.state.specs.declared.queue.Queue.{Queue}
-use Rattle.state.specs.declared.queue.Reply.TheVariants.{SettingsAck}
+use Rattle.state.specs.declared.streams.Phase.TheVariants.{Open}
+use Rattle.state.specs.declared.queue.Reply.{Reply}
 use Rattle.state.specs.declared.streams.Streams.{Streams}
+use Rattle.tables.specs.DynamicTable as dynamic
 
--- No stream has a place, no block is open, and all windows are 65,535.
+-- No stream has a place, no block is open, the decoder's table is empty, and all windows are 65,535.
 abbrev pub fresh_streams : Streams
 fresh_streams = record {
+  phase = Open;
   places = replicate 16 None;
   started = false;
   open_block = None;
-  block = replicate 4096 0;
+  table = dynamic.fresh;
   seen = 0;
   accepted = 0;
   initial = 65535;
@@ -21,8 +23,8 @@ fresh_streams = record {
   shrink = false;
 }
 
-abbrev pub no_replies : Queue
-no_replies = record { replies = replicate 32 SettingsAck; count = 0 }
+abbrev pub no_replies : ArrayVec Reply
+no_replies = record { items = [] }
 
 -- Nothing is recorded or sent, and no GOAWAY is due.
 abbrev pub fresh : Core
@@ -32,5 +34,4 @@ fresh = record {
   recorded = 0;
   settings_sent = false;
   goaway = None;
-  phase = Open;
 }

@@ -1,5 +1,6 @@
 -- The sixteen places: which serves a stream, which is free, and what its sending window is.
-use Rattle.std.specs.Prelude.{ℕ, ◌+◌, ◌<◌, Bool, true, false, cond, List, [], ◌∷◌, Some, None, Option, ◌==◌, nat_lt, slice_index_or, slice_set}
+use Rattle.std.specs.Prelude.{ℕ, ◌+◌, Bool, true, false, List, Some, None, Option, ◌==◌, nat_lt, slice_index_or, slice_set, position}
+use Rattle.std.specs.List.{list_any}
 use Rattle.state.specs.declared.place.Place.{Place}
 use Rattle.state.specs.declared.place.Stage.{Stage}
 use Rattle.state.specs.declared.place.Stage.TheVariants.{Receiving, Waiting, Claimed, Sending}
@@ -21,26 +22,12 @@ abbrev pub is_free : Option Place → Bool
 is_free None = true
 is_free (Some p) = false
 
--- The number of the first element that meets a test, counted from i.
-unfoldable pub first_from : {X : Type 0} → (X → Bool) → ℕ → List X → Option ℕ
-first_from test i [] = None
-first_from test i (x ∷ xs) = cond (test x) (Some i) (first_from test (i + 1) xs)
-
-unfoldable pub any : {X : Type 0} → (X → Bool) → List X → Bool
-any test [] = false
-any test (x ∷ xs) = cond (test x) true (any test xs)
-
 -- The place of a stream; none if it has left or never had one.
 abbrev pub place_of : List (Option Place) → ℕ → Option ℕ
-place_of places stream = first_from (λ slot. has slot stream) 0 places
+place_of places stream = position (λ slot. has slot stream) places
 
 abbrev pub lowest_free : List (Option Place) → Option ℕ
-lowest_free places = first_from is_free 0 places
-
--- An answer is one of the sixteen.
-abbrev pub Within : Option ℕ → Type 0
-Within None = Unit {0}
-Within (Some k) = k < 16
+lowest_free places = position is_free places
 
 -- The octets of its response that a place has sent.
 abbrev pub sent_of : Stage → ℕ
@@ -59,4 +46,4 @@ slot_overflows initial (Some p) = overflows initial p.increments (sent_of p.stag
 
 -- With this value of setting 4, is any place's sending window above 2^31 - 1?
 abbrev pub any_overflows : ℕ → List (Option Place) → Bool
-any_overflows initial places = any (slot_overflows initial) places
+any_overflows initial places = list_any (slot_overflows initial) places

@@ -1,21 +1,13 @@
-// The whole state of a connection but for the decoder's table, the scheduler and the site.
+// The whole state of a connection but for the scheduler and the site.
 ghost use Rattle.std.specs.Prelude.{◌≡◌};
 ghost use Rattle.state.specs.Fresh.{fresh};
 
-use crate::queue::{Queue, Reply};
-use crate::streams::Streams;
+use crate::queue::Queue;
+use crate::streams::{Phase, Streams};
 use frames::code::ErrorCode;
+use tables::table::Table;
 
-#[derive(Clone, Copy)]
-pub enum Phase {
-    Open,
-    // No new stream is taken.
-    Shut,
-    // A connection fault came: nothing is read, and only SETTINGS and GOAWAY are written.
-    Ended,
-}
-
-#[derive(Clone, Copy)]
+#[derive(Drop)]
 pub struct Core {
     pub streams: Streams,
     pub queue: Queue,
@@ -25,7 +17,6 @@ pub struct Core {
     pub settings_sent: bool,
     // A GOAWAY that is due, with its code.
     pub goaway: Option<ErrorCode>,
-    pub phase: Phase,
 }
 
 impl Core {
@@ -34,10 +25,11 @@ impl Core {
         ensures { result ≡ fresh }
     {
         let streams = Streams {
+            phase: Phase::Open,
             places: [None; 16],
             started: false,
             open_block: None,
-            block: [0; 4096],
+            table: Table::new(),
             seen: 0,
             accepted: 0,
             initial: 65_535,
@@ -45,17 +37,12 @@ impl Core {
             owed: 0,
             shrink: false,
         };
-        let queue = Queue {
-            replies: [Reply::SettingsAck; 32],
-            count: 0,
-        };
         Core {
             streams,
-            queue,
+            queue: Queue::new(),
             recorded: 0,
             settings_sent: false,
             goaway: None,
-            phase: Phase::Open,
         }
     }
 }

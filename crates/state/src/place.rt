@@ -1,5 +1,6 @@
 // A place: one of sixteen, each of which serves one stream at a time.
 use hpack::status::Status;
+use octets::Octets;
 use request::method::Method;
 use request::path::Path;
 use request::priority::Priority;
@@ -19,9 +20,8 @@ use request::priority::Priority;
 pub struct Request {
     pub method: Method,
     pub path: Path,
-    // What came of the body, `length` octets at the front.
-    pub body: [u8; 256],
-    pub length: u16,
+    // What came of the body.
+    pub body: Octets<256>,
     // Octets of whole payloads, which count against the stream's receiving window.
     pub counted: u16,
 }
@@ -30,7 +30,8 @@ pub struct Request {
 #[derive(Clone, Copy)]
 pub struct Response {
     pub status: Status,
-    // Whether DATA follows HEADERS: on 200 to a GET. (An empty resource has none to send.)
+    // Whether DATA follows HEADERS: on 200 to a GET. (An empty resource has none to send.) It stands beside the size,
+    // and not round it, since the answer to a HEAD tells a size and has no body.
     pub has_body: bool,
     // The octets of the resource, and how many of them are sent.
     pub size: u32,

@@ -1,26 +1,39 @@
 // What the frames that are read act on.
 use crate::place::Place;
+use octets::Octets;
+use tables::table::Table;
 
-// A field block whose last fragment has not come: its stream, whether its HEADERS had END_STREAM, and the octets so far.
+#[derive(Clone, Copy, Debug, PartialEq, Eq)]
+pub enum Phase {
+    Open,
+    // No new stream is taken.
+    Shut,
+    // A connection fault came: nothing is read, and only SETTINGS and GOAWAY are written.
+    Ended,
+}
+
+// A field block whose last fragment has not come: its stream, whether its HEADERS had END_STREAM, and the octets so
+// far.
 #[derive(Clone, Copy)]
 pub struct OpenBlock {
     pub stream: u32,
     pub end_stream: bool,
-    pub length: u16,
+    pub octets: Octets<4096>,
 }
 
-#[derive(Clone, Copy)]
+#[derive(Drop)]
 pub struct Streams {
+    pub phase: Phase,
     // The stream of each place, if it has one.
     pub places: [Option<Place>; 16],
     // Whether the first frame was read.
     pub started: bool,
     pub open_block: Option<OpenBlock>,
-    // The octets of the open block.
-    pub block: [u8; 4096],
+    // The decoder's dynamic table, which the field blocks of all streams share.
+    pub table: Table,
     // The highest stream of any HEADERS.
     pub seen: u32,
-    // The last stream that got a place, 0 if none did.
+    // The last stream that got a place, 0 if none did, as GOAWAY tells it.
     pub accepted: u32,
     // Setting 4 of the peer: what a stream's sending window starts with.
     pub initial: u32,

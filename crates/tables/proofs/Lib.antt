@@ -1,3 +1,7 @@
 pub mod References
-pub mod Rings
-pub mod Changes
+pub mod Lists
+pub mod Slots
+pub mod Rows
+pub mod Fitting
+pub mod Marks
+pub mod Writes

@@ -1,5 +1,6 @@
 -- The dynamic table: a list of fields, the newest first, held to a size (RFC 7541, section 4).
-use Rattle.std.specs.Prelude.{ℕ, zero, suc, ◌+◌, ◌-◌, Bool, true, false, cond, List, [], ◌∷◌, length, Some, None, Option, nat_le}
+use Rattle.std.specs.Prelude.{ℕ, ◌+◌, ◌-◌, cond, List, [], ◌∷◌, length, Some, None, Ok, Err, Option, Result, nat_le}
+use Rattle.tables.specs.declared.refusal.TooLarge.{TooLarge}
 use Rattle.tables.specs.StaticTable.{Field}
 
 -- An entry costs its octets and 32 more.
@@ -18,12 +19,6 @@ fitted room (f ∷ fs) = cond (nat_le (cost f) room) (f ∷ fitted (room - cost 
 -- A field is added as the newest; one that is larger than the table empties it and is not added.
 abbrev pub added : ℕ → Field → List Field → List Field
 added limit f fs = fitted limit (f ∷ fs)
-
--- The entry at a place, 0 the newest.
-abbrev pub nth : List Field → ℕ → Option Field
-nth [] i = None
-nth (f ∷ fs) zero = Some f
-nth (f ∷ fs) (suc i) = nth fs i
 
 -- A table: the size that its entries are held to, and the entries.
 pub record Dynamic : Type 0 where
@@ -48,6 +43,11 @@ abbrev pub grown_like : Dynamic → Option Field → List ℕ → Dynamic
 grown_like t None v = t
 grown_like t (Some f) v = grown t (f.0, v)
 
+-- The same by the name alone, which may be that of an entry or not.
+abbrev pub grown_named : Dynamic → Option (List ℕ) → List ℕ → Dynamic
+grown_named t None v = t
+grown_named t (Some n) v = grown t (n, v)
+
 -- A new size: above the largest it is refused, and the table stays as it was.
-abbrev pub resizing : Dynamic → ℕ → Bool × Dynamic
-resizing t n = cond (nat_le n largest) (true, resized t n) (false, t)
+abbrev pub resizing : Dynamic → ℕ → Result (Unit {0}) TooLarge × Dynamic
+resizing t n = cond (nat_le n largest) (Ok tt, resized t n) (Err (record {}), t)

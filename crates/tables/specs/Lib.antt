@@ -1,5 +1,7 @@
+pub mod Rings
 pub mod StaticTable
 pub mod DynamicTable
 pub mod Layout
-pub mod Tables
+pub mod Memories
+pub mod Names
 pub mod Views

@@ -1,5 +1,5 @@
 -- The static table: the 61 entries of RFC 7541, Appendix A.
-use Rattle.std.specs.Prelude.{ℕ, ◌-◌, cond, List, [], ◌∷◌, map, Some, None, codes, Option, nat_lt, slice_index_or}
+use Rattle.std.specs.Prelude.{ℕ, ◌-◌, cond, List, [], ◌∷◌, None, codes, Option, nat_lt, slice_get}
 
 -- A field is a name and a value.
 abbrev pub Field : Type 0
@@ -71,14 +71,6 @@ static_table =
     (codes "www-authenticate", codes "") ∷  -- 61
     []
 
-abbrev pub static_names : List (List ℕ)
-static_names = map (λ (f : Field). f.0) static_table
-
-abbrev pub static_values : List (List ℕ)
-static_values = map (λ (f : Field). f.1) static_table
-
 -- The entry at an index: there is none at 0, nor past 61.
 abbrev pub static_entry : ℕ → Option Field
-static_entry i =
-    cond (nat_lt 61 i) None
-    (cond (nat_lt 0 i) (Some (slice_index_or static_names (i - 1) [], slice_index_or static_values (i - 1) [])) None)
+static_entry i = cond (nat_lt 0 i) (slice_get static_table (i - 1)) None

@@ -1,6 +1,9 @@
 // The two tables that the indices of a field block point into (RFC 7541): the static one and the dynamic one.
 #![tactic(auto)]
 
-pub mod span;
+mod memory;
+mod name;
+pub mod refusal;
+mod span;
 pub mod static_table;
 pub mod table;

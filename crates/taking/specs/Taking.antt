@@ -1,55 +1,46 @@
 -- All of `take` but for the site.
-use Rattle.std.specs.Prelude.{ℕ, ◌+◌, Bool, true, false, cond, List, [], length, replicate, Some, None, Ok, Err, Option, Result, nat_le, slice_set}
+use Rattle.std.specs.Prelude.{ℕ, ◌+◌, cond, List, [], ◌∷◌, ◌++◌, length, replicate, Some, None, Ok, Err, Option, Result, nat_le}
+use Rattle.arrayvec.specs.ArrayVec.{ArrayVec, array_vec_len}
 use Rattle.frames.specs.declared.code.ErrorCode.{ErrorCode}
 use Rattle.frames.specs.declared.fault.Fault.{Fault}
 use Rattle.frames.specs.declared.fault.Scope.{Scope}
 use Rattle.frames.specs.declared.fault.Scope.TheVariants.{Connection, Stream}
 use Rattle.frame_header.specs.declared.header.Header.{Header}
 use Rattle.frames.specs.Cut.{cut_of}
-use Rattle.frames.specs.View.{Piece, whole_frame, refused, faulty}
-use Rattle.tables.specs.DynamicTable.{Dynamic}
+use Rattle.frames.specs.declared.cut.Unread.{Unread}
+use Rattle.frames.specs.declared.cut.Unread.TheVariants.{Refused, Faulty}
 use Rattle.request.specs.declared.record.Record.{Record}
 use Rattle.state.specs.declared.engine.Core.{Core}
-use Rattle.state.specs.declared.engine.Phase.{Phase}
-use Rattle.state.specs.declared.engine.Phase.TheVariants.{Open, Shut, Ended}
-use Rattle.state.specs.declared.queue.Queue.{Queue}
+use Rattle.state.specs.declared.streams.Phase.TheVariants.{Ended}
 use Rattle.state.specs.declared.queue.Reply.{Reply}
 use Rattle.state.specs.declared.queue.Reply.TheVariants.{RstStream}
 use Rattle.state.specs.declared.refusal.Refusal.{Refusal}
 use Rattle.state.specs.declared.refusal.Refusal.TheVariants as refusal
 use Rattle.state.specs.declared.streams.Streams.{Streams}
+use Rattle.state.specs.Phases.{has_ended}
+use Rattle.state.specs.Refusals.{refusal_of}
 use Rattle.state.specs.Setters.{with_places, with_streams, with_queue, with_goaway, with_phase}
 use Rattle.taking.specs.declared.ending.Asks.{Asks}
 use Rattle.reading.specs.declared.meeting.Arrival.TheVariants.{Reset}
 use Rattle.reading.specs.declared.next.Next.{Next}
-use Rattle.reading.specs.declared.next.Next.TheVariants.{Done, Replies, Ends, Fails}
+use Rattle.reading.specs.declared.next.Next.TheVariants.{Done, Replies, Ends}
 use Rattle.taking.specs.declared.taking.Step.{Step}
 use Rattle.reading.specs.Meeting.{arrived}
 use Rattle.reading.specs.Acting.{frame_read}
 use Rattle.taking.specs.Ending.{request_ended}
 
-abbrev pub has_ended : Phase → Bool
-has_ended Open = false
-has_ended Shut = false
-has_ended Ended = true
-
-abbrev pub is_shut : Phase → Bool
-is_shut Open = false
-is_shut Shut = true
-is_shut Ended = false
-
 -- A reply behind those that wait.
-abbrev pub queued : Queue → Reply → Queue
-queued q reply = record { replies = slice_set q.replies q.count reply; count = q.count + 1 }
+abbrev pub queued : ArrayVec Reply → Reply → ArrayVec Reply
+queued q reply = record { items = q.items ++ reply ∷ [] }
 
-abbrev pub emptied : Queue → Queue
-emptied q = record { replies = q.replies; count = 0 }
+abbrev pub emptied : ArrayVec Reply
+emptied = record { items = [] }
 
 -- A fault of the connection frees all places, drops the replies and any unsent GOAWAY, makes GOAWAY with its code due, and
 -- ends the connection.
 abbrev pub connection_ended : Core → ErrorCode → Core
 connection_ended c code =
-    with_phase (with_goaway (with_queue (with_streams c (with_places c.streams (replicate 16 None))) (emptied c.queue)) (Some code)) Ended
+    with_goaway (with_queue (with_streams c (with_phase (with_places c.streams (replicate 16 None)) Ended)) emptied) (Some code)
 
 -- A fault of a stream frees its place, if it has one, and queues RST_STREAM with its code.
 abbrev pub stream_failed : Core → ErrorCode → ℕ → Core
@@ -61,7 +52,7 @@ failed c Connection fault = connection_ended c fault.code
 failed c Stream fault = stream_failed c fault.code fault.place
 
 abbrev pub step_of : ℕ → Option Fault → Option Asks → Step
-step_of octets fault asks = record { octets = octets; fault = fault; asks = asks }
+step_of octets fault asks = record { read = record { octets = octets; fault = fault }; asks = asks }
 
 -- A fault of the connection answers 0 octets; a fault of a stream has read its frame.
 abbrev pub octets_at : Scope → ℕ → ℕ
@@ -72,35 +63,32 @@ abbrev pub finished : ℕ → Option Asks × Core × List Record → Step × Cor
 finished read e = (step_of read None e.0, e.1, e.2)
 
 -- What is left to do after a frame's own rules. The book is touched only where a request ends without a fault.
-abbrev pub concluded : Core → Next → ℕ → List Record → Step × Core × List Record
-concluded c Done read book = (step_of read None None, c, book)
-concluded c (Replies reply) read book = (step_of read None None, with_queue c (queued c.queue reply), book)
-concluded c (Ends k) read book = finished read (request_ended c k book)
-concluded c (Fails fault) read book = (step_of (octets_at fault.scope read) (Some fault) None, failed c fault.scope fault, book)
+abbrev pub concluded : Core → Result Next Fault → ℕ → List Record → Step × Core × List Record
+concluded c (Ok Done) read book = (step_of read None None, c, book)
+concluded c (Ok (Replies reply)) read book = (step_of read None None, with_queue c (queued c.queue reply), book)
+concluded c (Ok (Ends k)) read book = finished read (request_ended c k book)
+concluded c (Err fault) read book = (step_of (octets_at fault.scope read) (Some fault) None, failed c fault.scope fault, book)
 
-abbrev pub with_table : Dynamic → Step × Core × List Record → Step × Core × Dynamic × List Record
-with_table t s = (s.0, s.1, t, s.2)
-
-abbrev pub after_frame : Core → Next × Streams × Dynamic → ℕ → List Record → Step × Core × Dynamic × List Record
-after_frame c r read book = with_table r.2 (concluded (with_streams c r.1) r.0 read book)
+abbrev pub after_frame : Core → Result Next Fault × Streams → ℕ → List Record → Step × Core × List Record
+after_frame c r read book = concluded (with_streams c r.1) r.0 read book
 
 -- One whole frame: its own rules, then what is left to do.
-abbrev pub framed : Core → Dynamic → Header → List ℕ → List Record → Step × Core × Dynamic × List Record
-framed c t h payload book = after_frame c (frame_read (is_shut c.phase) c.streams t h payload) (9 + length payload) book
+abbrev pub framed : Core → Header → List ℕ → List Record → Step × Core × List Record
+framed c h payload book = after_frame c (frame_read c.streams h payload) (9 + length payload) book
 
-abbrev pub stepped_ok : Step × Core × Dynamic × List Record → Result Step Refusal × Core × Dynamic × List Record
-stepped_ok s = (Ok s.0, s.1, s.2, s.3)
+abbrev pub stepped_ok : Step × Core × List Record → Result Step Refusal × Core × List Record
+stepped_ok s = (Ok s.0, s.1, s.2)
 
 -- What stands at the front of the octets: no whole frame is refused, and a length field above 16,384 is a fault of the
 -- connection before anything else is asked of the frame.
-abbrev pub stepped_piece : Core → Dynamic → Piece → List Record → Result Step Refusal × Core × Dynamic × List Record
-stepped_piece c t (refused r) book = (Err refusal.Incomplete, c, t, book)
-stepped_piece c t (faulty fault) book = stepped_ok (with_table t (concluded c (Fails fault) 0 book))
-stepped_piece c t (whole_frame h payload) book = stepped_ok (framed c t h payload book)
+abbrev pub stepped_piece : Core → Result (Header × List ℕ) Unread → List Record → Result Step Refusal × Core × List Record
+stepped_piece c (Err (Refused r)) book = (Err (refusal_of r), c, book)
+stepped_piece c (Err (Faulty fault)) book = stepped_ok (concluded c (Err fault) 0 book)
+stepped_piece c (Ok p) book = stepped_ok (framed c p.0 p.1 book)
 
 -- The questions in order; a refusal leaves everything as it was.
-abbrev pub stepped : Core → Dynamic → List ℕ → List Record → Result Step Refusal × Core × Dynamic × List Record
-stepped c t octets book =
-    cond (has_ended c.phase) (Err refusal.Ended, c, t, book)
-    (cond (nat_le 32 c.queue.count) (Err refusal.RepliesWaiting, c, t, book)
-    (stepped_piece c t (cut_of octets) book))
+abbrev pub stepped : Core → List ℕ → List Record → Result Step Refusal × Core × List Record
+stepped c octets book =
+    cond (has_ended c.streams.phase) (Err refusal.Ended, c, book)
+    (cond (nat_le 32 (array_vec_len c.queue)) (Err refusal.RepliesWaiting, c, book)
+    (stepped_piece c (cut_of octets) book))

@@ -1,4 +1,5 @@
-// One frame taken: the questions before it, what it does, faults, and the end of a request. All of `take` but for the site.
+// One frame taken: the questions before it, what it does, faults, and the end of a request. All of `take` but for the
+// site.
 #![tactic(auto)]
 
 pub mod ending;

@@ -1,25 +1,27 @@
 -- One frame from the front of what came, and what it says; a frame that was written is read as what was meant.
 use Rattle.std.specs.Prelude.{◌≡◌, ℕ, ◌+◌, ◌<◌, ◌≤◌, true, false, ◌⊎◌, List, [], ◌++◌, length, take, Ok, Err, Result}
+use Rattle.frames.specs.declared.cut.Unread.{Unread}
+use Rattle.frames.specs.declared.cut.Unread.TheVariants.{Faulty}
 use Rattle.frames.specs.declared.fault.Fault.{Fault}
+use Rattle.frame_header.specs.declared.header.Header.{Header}
 use Rattle.frames.specs.Codes.{code_number}
 use Rattle.frames.specs.Cut.{cut_of, longest}
 use Rattle.frames.specs.Parse.{idle, parsed}
-use Rattle.frames.specs.View.{Piece, whole_frame, refused, faulty, Said, says_data, says_headers, says_rst_stream, says_settings, says_settings_ack, says_ping_ack, says_goaway, says_window_update}
-use Rattle.wire.specs.View.{Read, reads, refuses, faults, Sent, sends_settings, sends_settings_ack, sends_ping_ack, sends_rst_stream, sends_window_update, sends_goaway, sends_headers, sends_data}
+use Rattle.frames.specs.View.{Said, says_data, says_headers, says_rst_stream, says_settings, says_settings_ack, says_ping_ack, says_goaway, says_window_update}
+use Rattle.wire.specs.View.{Sent, sends_settings, sends_settings_ack, sends_ping_ack, sends_rst_stream, sends_window_update, sends_goaway, sends_headers, sends_data}
 use Rattle.wire.specs.Write.{header_sent, octets_of, our_list}
 
 -- a frame's own rules, and how many octets it has
-abbrev pub read_parsed : Result Said Fault → ℕ → Read
-read_parsed (Ok f) n = reads f (9 + n)
-read_parsed (Err f) n = faults f
+abbrev pub read_parsed : Result Said Fault → ℕ → Result (Said × ℕ) Unread
+read_parsed (Ok f) n = Ok (f, 9 + n)
+read_parsed (Err f) n = Err (Faulty f)
 
-abbrev pub read_piece : Piece → ℕ → Read
-read_piece (whole_frame h payload) seen = read_parsed (parsed h payload seen) (length payload)
-read_piece (refused r) seen = refuses r
-read_piece (faulty f) seen = faults f
+abbrev pub read_cut : Result (Header × List ℕ) Unread → ℕ → Result (Said × ℕ) Unread
+read_cut (Ok p) seen = read_parsed (parsed p.0 p.1 seen) (length p.1)
+read_cut (Err e) seen = Err e
 
-abbrev pub read_of : List ℕ → ℕ → Read
-read_of xs seen = read_piece (cut_of xs) seen
+abbrev pub read_of : List ℕ → ℕ → Result (Said × ℕ) Unread
+read_of xs seen = read_cut (cut_of xs) seen
 
 -- what each frame means to its reader; the payload of DATA is what stands behind its header
 abbrev pub meant : Sent → List ℕ → Said
@@ -48,5 +50,5 @@ Sendable (sends_headers stream block end) seen behind = Known stream seen × (le
 Sendable (sends_data stream n end) seen behind = Known stream seen × (n ≤ longest) × (n ≤ length behind)
 
 -- the answer to octets that begin with a written frame is that frame and its length
-abbrev pub ReadsBack : List ℕ → ℕ → Read → Type 0
-ReadsBack xs seen r = (s : Sent) (behind : List ℕ) → xs ≡ octets_of s ++ behind → Sendable s seen behind → r ≡ reads (meant s behind) (9 + (header_sent s).length)
+abbrev pub ReadsBack : List ℕ → ℕ → Result (Said × ℕ) Unread → Type 0
+ReadsBack xs seen r = (s : Sent) (behind : List ℕ) → xs ≡ octets_of s ++ behind → Sendable s seen behind → r ≡ Ok (meant s behind, 9 + (header_sent s).length)

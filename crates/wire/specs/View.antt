@@ -2,23 +2,13 @@
 use Rattle.std.specs.Prelude.{ℕ, Bool, List}
 use Rattle.frames.specs.View.{Said, said}
 use Rattle.frames.specs.declared.code.ErrorCode.{ErrorCode}
-use Rattle.frames.specs.declared.cut.Refusal.{Refusal}
-use Rattle.frames.specs.declared.fault.Fault.{Fault}
 use Rattle.wire.specs.declared.outgoing.Outgoing.{Outgoing}
 use Rattle.wire.specs.declared.outgoing.Outgoing.TheVariants as out
-use Rattle.wire.specs.declared.read.Reading.{Reading}
-use Rattle.wire.specs.declared.read.Reading.TheVariants as read
+use Rattle.wire.specs.declared.read.Read.{Read}
 
--- what is made of the octets that came
-pub data Read : Type 0 where
-  reads : (said : Said) (n : ℕ) → Read
-  refuses : Refusal → Read
-  faults : Fault → Read
-
-abbrev pub read_view : Reading → Read
-read_view (read.Frame f n) = reads (said f) n
-read_view (read.Refused r) = refuses r
-read_view (read.Faulty f) = faults f
+-- a frame that was read: what it says, and how many octets it has
+abbrev pub read_view : Read → Said × ℕ
+read_view r = (said r.frame, r.length)
 
 -- a frame that is to be written
 pub data Sent : Type 0 where
@@ -38,4 +28,5 @@ sent (out.PingAck o) = sends_ping_ack o
 sent (out.RstStream s c) = sends_rst_stream s c
 sent (out.WindowUpdate s n) = sends_window_update s n
 sent (out.GoAway l c) = sends_goaway l c
+sent (out.Headers s b e) = sends_headers s b.now e
 sent (out.DataHeader s n e) = sends_data s n e

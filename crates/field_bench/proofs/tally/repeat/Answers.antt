@@ -1,6 +1,5 @@
 use Rattle.std.proofs.Common.{◌≡◌, ℕ, suc, ◌+◌, ◌-◌, List, refl, ap, ◌∙◌, arith}
 use Rattle.tables.specs.DynamicTable.{Dynamic}
-use Rattle.tables.specs.Tables.{table_of}
 use Rattle.field_bench.specs.declared.tally.Tally.{Tally}
 use Rattle.field_bench.specs.Tallies.{counted, repeated}
 use Rattle.field_bench.proofs.tally.repeat.Goals as goal
@@ -16,7 +15,7 @@ no_more block s = refl
 pub loop-init : goal.loop-init
 loop-init c =
     let z : c.args.turns - 0 ≡ c.args.turns = omega arith in
-    ap (λ n. repeated n c.args.block.now (table_of c.args.table.now, c.args.tally.now)) z
+    ap (λ n. repeated n c.args.block.now (c.args.table.now, c.args.tally.now)) z
 
 pub loop-preserved : goal.loop-preserved
 loop-preserved c =
@@ -25,11 +24,11 @@ loop-preserved c =
     let left : ℕ = c.args.turns - (l.counter + 1) in
     let n : suc left ≡ c.args.turns - l.counter = omega arith in
     let d = c.decode.ensures.value in
-    let next : (table_of c.decode.new.table, c.decode.new.fold) ≡ counted block (table_of l.table, l.tally) = λ j. ((d j).1, (d j).2) in
-    ap (repeated left block) next ∙ one_more left block (table_of l.table, l.tally) ∙ ap (λ k. repeated k block (table_of l.table, l.tally)) n ∙ l.invariant
+    let next : (c.decode.new.table, c.decode.new.fold) ≡ counted block (l.table, l.tally) = λ j. ((d j).1, (d j).2) in
+    ap (repeated left block) next ∙ one_more left block (l.table, l.tally) ∙ ap (λ k. repeated k block (l.table, l.tally)) n ∙ l.invariant
 
 pub returns : goal.returns
 returns c =
     let l = c.loop in
     let z : 0 ≡ c.args.turns - l.counter = omega arith in
-    no_more c.args.block.now (table_of l.table, l.tally) ∙ ap (λ k. repeated k c.args.block.now (table_of l.table, l.tally)) z ∙ l.invariant
+    no_more c.args.block.now (l.table, l.tally) ∙ ap (λ k. repeated k c.args.block.now (l.table, l.tally)) z ∙ l.invariant

@@ -1,5 +1,5 @@
 use Rattle.std.proofs.Common.{◌≡◌, vec_len}
 use Rattle.field_vectors.proofs.case.octets_of.Given as goal
 
-abbrev pub invariant-loop-i : goal.invariant-loop-i
-invariant-loop-i l = vec_len l.octets ≡ l.i
+abbrev pub invariant-loop-high : goal.invariant-loop-high
+invariant-loop-high l = vec_len l.octets ≡ l.high-index

@@ -1,29 +1,28 @@
-use Rattle.std.proofs.Common.{◌≡◌, ◌+◌, sym, ap, ◌∙◌, subst, arith}
-use Rattle.scheduler.specs.Urgencies.{best}
-use Rattle.scheduler.specs.Chosen.{ChosenIs}
-use Rattle.scheduler.proofs.Bests.{chosen-holds, Within, chosen_none, chosen-takes, chosen-skips, within_more, within-better}
+use Rattle.std.proofs.Common.{◌≡◌, ℕ, ◌&&◌, ltb, leb, rules, tests, sym, ◌∙◌, ap, subst, arith}
+use Rattle.std.specs.Option.{option_map}
+use Rattle.std.proofs.lemmas.Iterator.{YieldsList-from_slice, YieldsList-from_zip, YieldsList-from_map}
+use Rattle.std.proofs.lemmas.Iterator.Consumers.{YieldsList-at, YieldsList-from_filter, YieldsList-from_enumerate, reduce_from_yields_List}
+use Rattle.scheduler.specs.declared.offer.Offer.{Offer}
+use Rattle.scheduler.specs.Urgencies.{leash}
+use Rattle.scheduler.specs.Chosen.{rank_of, ChosenIs}
+use Rattle.scheduler.proofs.Ranks.{first_rank, best-kept}
+use Rattle.scheduler.proofs.Bests.{chosen-holds}
 use Rattle.scheduler.proofs.urgency.chosen.Goals as goal
-use Rattle.scheduler.proofs.urgency.chosen.Goals.{then-may, else-may}
-
-pub loop-i-init : goal.loop-i-init
-loop-i-init c = (sym (chosen_none c.args.leads.now c.args.offers.now), tt)
-
-pub loop-i-preserved : goal.loop-i-preserved
-loop-i-preserved c =
-    let ls = c.args.leads.now in
-    let os = c.args.offers.now in
-    let i = c.loop-i.i in
-    elim c.if-may.branch [
-      | then-may w ↦ (let t = chosen-takes ls os i (sym c.may.ensures ∙ w.if-may.true) in
-          (cc, subst (λ o. Within o (i + 1)) (sym (w.found-is ∙ w.front-found.ensures)) (within-better ls os c.loop-i.found i c.loop-i.invariant.1)))
-      | else-may w ↦ (let t = chosen-skips ls os i (sym c.may.ensures ∙ w.if-may.false) in
-          (cc, subst (λ o. Within o (i + 1)) (sym w.found-is) (within_more c.loop-i.found i c.loop-i.invariant.1)))
-    ]
 
 pub returns : goal.returns
 returns c =
     let ls = c.args.leads.now in
     let os = c.args.offers.now in
-    let all : c.loop-i.i ≡ 16 = omega arith in
-    let e = c.loop-i.invariant.0 ∙ ap (best ls os) all in
-    record { value = e; cases = subst (ChosenIs ls os 16) (sym e) (chosen-holds ls os 16) }
+    let first = reduce_from_yields_List first_rank c.map.result c.min.result c.min.ensures.ran
+    (YieldsList-from_map _ (λ (p : ℕ × (Offer × ℕ)). rank_of p.0 p.1.0 p.1.1)
+    (YieldsList-at c.map.ensures.source
+    (YieldsList-from_filter _ (λ (p : ℕ × (Offer × ℕ)). ltb 0 p.1.0.octets && leb p.1.1 leash)
+    (YieldsList-at c.filter.ensures.source
+    (YieldsList-from_enumerate
+    (YieldsList-at c.enumerate.ensures.source (YieldsList-from_zip (YieldsList-from_slice os cc) (YieldsList-from_slice ls cc)))
+    c.enumerate.ensures.count))
+    c.filter.ensures.closure (λ x r q k. search (rules, tests))))
+    c.map.ensures.closure (λ x r q k. search (rules, tests))) in
+    let place : c.map-2.result ≡ option_map (λ r. r.place) c.min.result = search rules in
+    let value = place ∙ ap (option_map (λ r. r.place)) first ∙ best-kept ls os (omega arith) (omega arith) in
+    record { value = value; cases = subst (ChosenIs ls os 16) (sym value) (chosen-holds ls os 16) }

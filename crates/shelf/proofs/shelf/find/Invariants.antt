@@ -1,10 +1,10 @@
--- What is left of the row names by the path what the whole names.
-use Rattle.std.proofs.Common.{◌≡◌, ◌-◌, ◌≤◌, length, drop}
-use Rattle.shelf.specs.Shelves.{shelf_named}
+-- The items that are left name by the path what the whole row names, and each lies in the row.
+use Rattle.shelf.specs.Shelves.{items_of}
+use Rattle.shelf.proofs.Rows.{Left}
 use Rattle.shelf.proofs.shelf.find.Given as goal
 
-abbrev pub invariant-entries : goal.invariant-entries
-invariant-entries l = (l.at ≤ length l.row) × (shelf_named (drop l.at l.row) l.path ≡ shelf_named l.row l.path)
-
-abbrev pub decreases-entries : goal.decreases-entries
-decreases-entries l = length l.row - l.at
+abbrev pub invariant-loop-entry : goal.invariant-loop-entry
+invariant-loop-entry l =
+    (goal.iterator-loop-entry).can_next l.entry-iterator
+    × (goal.iterator-loop-entry).is_finite l.entry-iterator
+    × Left l.row l.path (items_of l.entry-iterator.rest.now)

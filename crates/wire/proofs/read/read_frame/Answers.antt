@@ -1,26 +1,12 @@
-use Rattle.std.proofs.Common.{◌≡◌, ◌+◌, length, rules}
-use Rattle.wire.specs.Read.{read_of}
-use Rattle.frames.specs.View.{said}
-use Rattle.wire.specs.View.{reads, refuses, faults}
+use Rattle.std.proofs.Common.{rules}
 use Rattle.wire.proofs.RoundTrip.{reads_back}
 use Rattle.wire.proofs.read.read_frame.Goals as goal
 
-pub returns-in-Refused : goal.returns-in-Refused
-returns-in-Refused c =
-    let e : refuses c.in-Refused.refusal ≡ read_of c.args.octets.now c.args.seen = search rules in
-    record { value = e; back = reads_back _ _ _ e }
+pub returns-in_err-raw-clause-back : goal.returns-in_err-raw-clause-back
+returns-in_err-raw-clause-back c = reads_back c.args.octets.now c.args.seen _ (search rules)
 
-pub returns-in-Faulty : goal.returns-in-Faulty
-returns-in-Faulty c =
-    let e : faults c.in-Faulty.fault ≡ read_of c.args.octets.now c.args.seen = search rules in
-    record { value = e; back = reads_back _ _ _ e }
+pub returns-in_err-frame-clause-back : goal.returns-in_err-frame-clause-back
+returns-in_err-frame-clause-back c = reads_back c.args.octets.now c.args.seen _ (search rules)
 
-pub returns-in-Ok : goal.returns-in-Ok
-returns-in-Ok c =
-    let e : reads (said c.in-Ok.frame) (9 + length c.in-Frame.payload.now) ≡ read_of c.args.octets.now c.args.seen = search rules in
-    record { value = e; back = reads_back _ _ _ e }
-
-pub returns-in-Err : goal.returns-in-Err
-returns-in-Err c =
-    let e : faults c.in-Err.fault ≡ read_of c.args.octets.now c.args.seen = search rules in
-    record { value = e; back = reads_back _ _ _ e }
+pub returns-clause-back : goal.returns-clause-back
+returns-clause-back c = reads_back c.args.octets.now c.args.seen _ (search rules)
