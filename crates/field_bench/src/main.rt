@@ -3,6 +3,9 @@
 // (4,096 octets, each of which names an entry that fills the whole table).
 #![tactic(auto)]
 
+ghost use Rattle.std.specs.Prelude.{◌≡◌};
+ghost use Rattle.field_bench.specs.Tallies.{repeated};
+
 mod tally;
 
 use anyhow::Context;
@@ -25,7 +28,9 @@ fn tell(
     table: &mut Table,
     block: &[u8],
     turns: usize,
-) -> io::Result<()> {
+) -> io::Result<()>
+    ensures { table.new ≡ (repeated turns block.now (table.old, record { fields = 0; octets = 0 })).0 }
+{
     let mut tally = Tally::default();
     repeat(table, block, turns, &mut tally);
     println!(rt; "{name}: {turns} blocks, {tally}")
