@@ -5,6 +5,7 @@ ghost use Rattle.hpack.specs.Decoding.{field_at, name_for, effect_of, indexed_ef
 ghost use Rattle.primitives.specs.Reads.{value_of};
 ghost use Rattle.representations.specs.Representations.{name_at, representation_of};
 ghost use Rattle.hpack.specs.Turns.{ran, ran_size};
+ghost use Rattle.tables.specs.DynamicTable.{IsHeld};
 ghost use Rattle.tables.specs.Views.{shown_field};
 
 use representations::cursor::Cursor;
@@ -147,7 +148,10 @@ pub fn decode<F: Fold>(table: &mut Table, block: &[u8], fold: &mut F) -> Result<
     ensures value { (result, table.new, fold.new) ≡ decode_with F.Fold.step fold.old table.old block.now }
     ensures fused { (result, table.new, fold.new) ≡ refolded F.Fold.step fold.old (decode_list table.old block.now) }
     ensures bound { IfErr result (λ p. p < length block.now) }
+    ensures held { IsHeld table.new }
 {
     let mut cursor = Cursor::new(block);
-    decode_rest(table, &mut cursor, fold)
+    let outcome = decode_rest(table, &mut cursor, fold);
+    table.size(); // tells that the entries fit
+    outcome
 }

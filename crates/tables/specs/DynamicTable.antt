@@ -1,5 +1,5 @@
 -- The dynamic table: a list of fields, the newest first, held to a size (RFC 7541, section 4).
-use Rattle.std.specs.Prelude.{ℕ, ◌+◌, ◌-◌, cond, List, [], ◌∷◌, length, Some, None, Ok, Err, Option, Result, nat_le}
+use Rattle.std.specs.Prelude.{ℕ, ◌+◌, ◌-◌, ◌≤◌, cond, List, [], ◌∷◌, length, Some, None, Ok, Err, Option, Result, nat_le}
 use Rattle.tables.specs.declared.refusal.TooLarge.{TooLarge}
 use Rattle.tables.specs.StaticTable.{Field}
 
@@ -28,6 +28,10 @@ pub record Dynamic : Type 0 where
 -- The largest size that a table may have, which is also its size at first.
 abbrev pub largest : ℕ
 largest = 4096
+
+-- What holds of every table: its entries fit its size, which is at most the largest.
+abbrev pub IsHeld : Dynamic → Type 0
+IsHeld t = (total t.entries ≤ t.limit) × (t.limit ≤ largest)
 
 abbrev pub fresh : Dynamic
 fresh = record { limit = largest; entries = [] }

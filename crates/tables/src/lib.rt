@@ -4,6 +4,6 @@
 mod memory;
 mod name;
 pub mod refusal;
-mod span;
+pub mod span;
 pub mod static_table;
 pub mod table;

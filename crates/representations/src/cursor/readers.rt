@@ -7,7 +7,7 @@ ghost use Rattle.primitives.specs.Prefixes.{bits_of};
 ghost use Rattle.primitives.specs.Reads.{value_of};
 ghost use Rattle.representations.specs.Representations.{name_of, literal_of, representation_of};
 ghost use Rattle.primitives.specs.Strings.{string_of};
-ghost use Rattle.representations.specs.Views.{shown_text, shown_forms, shown_names};
+ghost use Rattle.representations.specs.Views.{shown_text, shown_forms, read_name, read_form};
 
 use super::Cursor;
 use crate::representation::{Name, Representation};
@@ -30,7 +30,8 @@ impl<'a> Cursor<'a> {
     }
 
     pub fn is_done(&self) -> bool
-        ensures { result ≡ nat_le (length self.now.block) self.now.at }
+        ensures value { result ≡ nat_le (length self.now.block) self.now.at }
+        ensures bound { self.now.at ≤ length self.now.block }
     {
         self.at >= self.block.len()
     }
@@ -40,7 +41,8 @@ impl<'a> Cursor<'a> {
     fn take<T, F: FnOnce(&'a [u8]) -> Option<(T, usize)>>(&mut self, reader: F) -> Option<T>
         requires callable { F.IsAlwaysCallable reader }
         requires bound { (r : Option (T × ℕ)) → FnOnceReturnsAt F.FnOnce reader (rest self.old) r → IfSome r (λ p. p.1 ≤ length (rest self.old)) }
-        ensures { (r : Option (T × ℕ)) × FnOnceReturnsAt F.FnOnce reader (rest self.old) r × (result ≡ value_of r) × (self.new ≡ past self.old r) }
+        ensures read { (r : Option (T × ℕ)) × FnOnceReturnsAt F.FnOnce reader (rest self.old) r × (result ≡ value_of r) × (self.new ≡ past self.old r) }
+        ensures bound { self.new.at ≤ length self.new.block }
     {
         let (_, left) = self.block.split_at(self.at);
         let (value, used) = reader(left)?;
@@ -52,6 +54,7 @@ impl<'a> Cursor<'a> {
     pub fn integer(&mut self, prefix: Prefix) -> Option<u32>
         ensures value { result ≡ value_of (integer_of (bits_of prefix) (rest self.old)) }
         ensures after { self.new ≡ past self.old (integer_of (bits_of prefix) (rest self.old)) }
+        ensures bound { self.new.at ≤ length self.new.block }
     {
         self.take(|octets| read_integer(prefix, octets))
     }
@@ -59,45 +62,9 @@ impl<'a> Cursor<'a> {
     pub fn string(&mut self) -> Option<&'a [u8]>
         ensures value { shown_text result ≡ value_of (string_of (rest self.old)) }
         ensures after { self.new ≡ past self.old (string_of (rest self.old)) }
+        ensures bound { self.new.at ≤ length self.new.block }
     {
         self.take(read_string)
-    }
-
-    // The name of a literal, whose index has a prefix of its own.
-    fn name(&mut self, prefix: Prefix) -> Option<Name<'a>>
-        ensures value { shown_names result ≡ value_of (name_of (bits_of prefix) (rest self.old)) }
-        ensures after { OnSome result (self.new ≡ past self.old (name_of (bits_of prefix) (rest self.old))) }
-    {
-        let index = self.integer(prefix)?;
-        if index != 0 {
-            return Some(Name::Index(index));
-        }
-        Some(Name::Text(self.string()?))
-    }
-
-    // A literal field, name and value.
-    fn literal(&mut self, adds: bool, prefix: Prefix) -> Option<Representation<'a>>
-        ensures value { shown_forms result ≡ value_of (literal_of adds (bits_of prefix) (rest self.old)) }
-        ensures after { OnSome result (self.new ≡ past self.old (literal_of adds (bits_of prefix) (rest self.old))) }
-    {
-        let name = self.name(prefix)?;
-        let value = self.string()?;
-        Some(Representation::Literal { adds, name, value })
-    }
-
-    // The representation at the place, told by its first bits.
-    fn form(&mut self) -> Option<Representation<'a>>
-        ensures value { shown_forms result ≡ value_of (representation_of (rest self.old)) }
-        ensures after { OnSome result (self.new ≡ past self.old (representation_of (rest self.old))) }
-    {
-        let (_, left) = self.block.split_at(self.at);
-        match left {
-            [] => None,
-            [128..=255, ..] => Some(Representation::Indexed(self.integer(Prefix::Seven)?)),
-            [64..=127, ..] => self.literal(true, Prefix::Six),
-            [32..=63, ..] => Some(Representation::Size(self.integer(Prefix::Five)?)),
-            [0..=31, ..] => self.literal(false, Prefix::Four),
-        }
     }
 
     // One that is read takes at least one octet; where none can be read, the cursor stays.
@@ -105,13 +72,56 @@ impl<'a> Cursor<'a> {
         ensures value { shown_forms result ≡ value_of (representation_of (rest self.old)) }
         ensures after { self.new ≡ past self.old (representation_of (rest self.old)) }
         ensures moves { OnSome result (self.old.at < self.new.at) }
+        ensures bound { self.new.at ≤ length self.new.block }
     {
-        let mut ahead = Cursor {
-            block: self.block,
-            at: self.at,
-        };
-        let representation = ahead.form()?;
-        *self = ahead;
-        Some(representation)
+        self.take(read_representation)
+    }
+}
+
+// The name of a literal, whose index has a prefix of its own, and how many octets it takes.
+fn read_name(prefix: Prefix, octets: &[u8]) -> Option<(Name<'_>, usize)>
+    ensures value { read_name result ≡ name_of (bits_of prefix) octets.now }
+    ensures bound { IfSome result (λ p. p.1 ≤ length octets.now) }
+    ensures moves { IfSome result (λ p. 1 ≤ p.1) }
+{
+    let (index, used) = read_integer(prefix, octets)?;
+    if index != 0 {
+        return Some((Name::Index(index), used));
+    }
+    let (_, left) = octets.split_at(used);
+    let (name, more) = read_string(left)?;
+    Some((Name::Text(name), used + more))
+}
+
+// A literal field, name and value.
+fn read_literal(adds: bool, prefix: Prefix, octets: &[u8]) -> Option<(Representation<'_>, usize)>
+    ensures value { read_form result ≡ literal_of adds (bits_of prefix) octets.now }
+    ensures bound { IfSome result (λ p. p.1 ≤ length octets.now) }
+    ensures moves { IfSome result (λ p. 1 ≤ p.1) }
+{
+    let (name, used) = read_name(prefix, octets)?;
+    let (_, left) = octets.split_at(used);
+    let (value, more) = read_string(left)?;
+    Some((Representation::Literal { adds, name, value }, used + more))
+}
+
+// The representation at the front of the octets, told by its first bits, and how many octets it takes.
+fn read_representation(octets: &[u8]) -> Option<(Representation<'_>, usize)>
+    ensures value { read_form result ≡ representation_of octets.now }
+    ensures bound { IfSome result (λ p. p.1 ≤ length octets.now) }
+    ensures moves { IfSome result (λ p. 1 ≤ p.1) }
+{
+    match octets {
+        [] => None,
+        [128..=255, ..] => {
+            let (index, used) = read_integer(Prefix::Seven, octets)?;
+            Some((Representation::Indexed(index), used))
+        }
+        [64..=127, ..] => read_literal(true, Prefix::Six, octets),
+        [32..=63, ..] => {
+            let (size, used) = read_integer(Prefix::Five, octets)?;
+            Some((Representation::Size(size), used))
+        }
+        [0..=31, ..] => read_literal(false, Prefix::Four, octets),
     }
 }

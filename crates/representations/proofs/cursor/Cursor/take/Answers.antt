@@ -13,3 +13,9 @@ invariant_of-self g c =
     let is : c.split_at.result.1.now ≡ rest c.args.self.now = c.split_at.ensures.back ∙ ap rest c.self.view_is in
     let few = c.requires.bound (Some (c.in_ok-value.value, c.in_ok-value.used)) (c.split_at.result.1, c.in_ok-value.ensures, is) in
     omega (arith, few, ap (λ (xs : List ℕ). length xs) is, c.split_at.ensures.back_len)
+
+pub returns-clause-bound : goal.returns-clause-bound
+returns-clause-bound g c =
+    let is : c.split_at.result.1.now ≡ rest c.args.self.now = c.split_at.ensures.back ∙ ap rest c.self.view_is in
+    let few = c.requires.bound (Some (c.in_ok-value.value, c.in_ok-value.used)) (c.split_at.result.1, c.in_ok-value.ensures, is) in
+    omega (arith, few, ap (λ (xs : List ℕ). length xs) is, c.split_at.ensures.back_len)
