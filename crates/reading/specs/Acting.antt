@@ -11,7 +11,8 @@ use Rattle.frames.specs.View.{Said, says_data, says_headers, says_priority, says
 use Rattle.state.specs.declared.queue.Reply.TheVariants.{PingAck}
 use Rattle.state.specs.declared.streams.OpenBlock.{OpenBlock}
 use Rattle.state.specs.declared.streams.Streams.{Streams}
-use Rattle.state.specs.Setters.{with_started, with_window, with_owed}
+use Rattle.state.specs.Setters.{with_started, with_block, with_window, with_owed}
+use Rattle.tables.specs.DynamicTable.{Dynamic}
 use Rattle.reading.specs.declared.meeting.Arrival.TheVariants as arrival
 use Rattle.reading.specs.declared.next.Next.{Next}
 use Rattle.reading.specs.declared.next.Next.TheVariants.{Done, Replies}
@@ -37,28 +38,32 @@ abbrev pub credit_read : Streams → ℕ → ℕ → Result Next Fault × Stream
 credit_read c stream increment =
     cond (not (stream == 0)) (arrived c stream (arrival.Credit increment) []) (connection_credited c increment)
 
--- HEADERS begin a block.
+-- HEADERS begin a block, of which no octet came before.
 abbrev pub block_begun : ℕ → Bool → OpenBlock
-block_begun stream end = record { stream = stream; end_stream = end; octets = [] }
+block_begun stream end = record { stream = stream; end_stream = end }
 
-abbrev pub continued : Streams → Option OpenBlock → List ℕ → Bool → Result Next Fault × Streams
-continued c None fragment last = (Ok Done, c)
-continued c (Some b) fragment last = fragment_read c b fragment last
+abbrev pub continued : Streams → Dynamic → Option OpenBlock → List ℕ → Bool → Result Next Fault × Streams × Dynamic
+continued c t None fragment last = (Ok Done, c, t)
+continued c t (Some b) fragment last = fragment_read c t b fragment last
+
+-- Only field blocks touch the table.
+abbrev pub beside : Dynamic → Result Next Fault × Streams → Result Next Fault × Streams × Dynamic
+beside t r = (r.0, r.1, t)
 
 -- What a frame does. PRIORITY, GOAWAY, acknowledgements and unknown types do nothing.
-abbrev pub acted : Streams → Said → Result Next Fault × Streams
-acted c (says_data stream octets counted end) = data_read c stream octets counted end
-acted c (says_headers stream fragment last end) = fragment_read c (block_begun stream end) fragment last
-acted c (says_priority stream) = (Ok Done, c)
-acted c (says_rst_stream stream code) = arrived c stream arrival.Reset []
-acted c (says_settings list) = settings_read c list
-acted c says_settings_ack = (Ok Done, c)
-acted c (says_ping octets) = (Ok (Replies (PingAck octets)), c)
-acted c (says_ping_ack octets) = (Ok Done, c)
-acted c (says_goaway last code debug) = (Ok Done, c)
-acted c (says_window_update stream increment) = credit_read c stream increment
-acted c (says_continuation stream fragment last) = continued c c.open_block fragment last
-acted c (says_unknown kind stream) = (Ok Done, c)
+abbrev pub acted : Streams → Dynamic → Said → Result Next Fault × Streams × Dynamic
+acted c t (says_data stream octets counted end) = beside t (data_read c stream octets counted end)
+acted c t (says_headers stream fragment last end) = fragment_read (with_block c []) t (block_begun stream end) fragment last
+acted c t (says_priority stream) = (Ok Done, c, t)
+acted c t (says_rst_stream stream code) = beside t (arrived c stream arrival.Reset [])
+acted c t (says_settings list) = beside t (settings_read c list)
+acted c t says_settings_ack = (Ok Done, c, t)
+acted c t (says_ping octets) = (Ok (Replies (PingAck octets)), c, t)
+acted c t (says_ping_ack octets) = (Ok Done, c, t)
+acted c t (says_goaway last code debug) = (Ok Done, c, t)
+acted c t (says_window_update stream increment) = beside t (credit_read c stream increment)
+acted c t (says_continuation stream fragment last) = continued c t c.open_block fragment last
+acted c t (says_unknown kind stream) = (Ok Done, c, t)
 
 abbrev pub is_settings : Kind → Bool
 is_settings kind.Data = false
@@ -98,12 +103,12 @@ block_fits (Some b) h = is_continuation h.kind && h.stream == b.stream
 abbrev pub may_come : Streams → Header → Bool
 may_come c h = first_fits c.started h && block_fits c.open_block h
 
-abbrev pub parsed_acted : Streams → Result Said Fault → Result Next Fault × Streams
-parsed_acted c (Err fault) = (Err fault, c)
-parsed_acted c (Ok frame) = acted c frame
+abbrev pub parsed_acted : Streams → Dynamic → Result Said Fault → Result Next Fault × Streams × Dynamic
+parsed_acted c t (Err fault) = (Err fault, c, t)
+parsed_acted c t (Ok frame) = acted c t frame
 
 -- One whole frame: the first frame and the open block, then the checks of its type, then what it does.
-abbrev pub frame_read : Streams → Header → List ℕ → Result Next Fault × Streams
-frame_read c h payload =
-    cond (may_come c h) (parsed_acted (with_started c true) (parsed h payload c.seen))
-    (Err (connection_fault ProtocolError h.stream), c)
+abbrev pub frame_read : Streams → Dynamic → Header → List ℕ → Result Next Fault × Streams × Dynamic
+frame_read c t h payload =
+    cond (may_come c h) (parsed_acted (with_started c true) t (parsed h payload c.seen))
+    (Err (connection_fault ProtocolError h.stream), c, t)

@@ -12,7 +12,7 @@ use Rattle.state.specs.declared.place.Place.{Place}
 use Rattle.state.specs.declared.place.Stage.TheVariants.{Receiving}
 use Rattle.state.specs.declared.streams.OpenBlock.{OpenBlock}
 use Rattle.state.specs.declared.streams.Streams.{Streams}
-use Rattle.state.specs.Setters.{with_open_block, with_table, with_seen, with_accepted}
+use Rattle.state.specs.Setters.{with_open_block, with_block, with_seen, with_accepted}
 use Rattle.state.specs.Phases.{is_shut}
 use Rattle.state.specs.Places.{with_slot, place_of, lowest_free}
 use Rattle.reading.specs.declared.next.Next.{Next}
@@ -56,20 +56,21 @@ abbrev pub heard_by : Streams → OpenBlock → Heard → Result Next Fault × S
 heard_by c b h = heard_at c b h (place_of c.places b.stream)
 
 -- A block that cannot be decoded is a fault of the connection, at the first octet of the representation at fault.
-abbrev pub decoded : Streams → OpenBlock → Result Heard ℕ × Dynamic → Result Next Fault × Streams
-decoded c b (Err place, t) = (Err (connection_fault CompressionError place), with_table c t)
-decoded c b (Ok h, t) = heard_by (with_table c t) b h
+abbrev pub decoded : Streams → OpenBlock → Result Heard ℕ × Dynamic → Result Next Fault × Streams × Dynamic
+decoded c b (Err place, t) = (Err (connection_fault CompressionError place), c, t)
+decoded c b (Ok h, t) = ((heard_by c b h).0, (heard_by c b h).1, t)
 
 -- A closed block is always decoded, so that the table keeps step with the peer's.
-abbrev pub closed : Streams → OpenBlock → Result Next Fault × Streams
-closed c b = decoded c b (block_read c.table b.octets)
+abbrev pub closed : Streams → Dynamic → OpenBlock → Result Next Fault × Streams × Dynamic
+closed c t b = decoded c b (block_read t c.block)
 
-abbrev pub longer : OpenBlock → List ℕ → OpenBlock
-longer b fragment = record b { octets = b.octets ++ fragment }
+-- A fragment behind those that came before.
+abbrev pub longer : Streams → List ℕ → Streams
+longer c fragment = with_block c (c.block ++ fragment)
 
 -- One more fragment: more than 4,096 octets in all are a fault, closed or not; the last one closes the block.
-abbrev pub fragment_read : Streams → OpenBlock → List ℕ → Bool → Result Next Fault × Streams
-fragment_read c b fragment last =
-    cond (nat_lt 4096 (length b.octets + length fragment)) (Err (connection_fault EnhanceYourCalm b.stream), c)
-    (cond last (closed (with_open_block c None) (longer b fragment))
-    (Ok Done, with_open_block c (Some (longer b fragment))))
+abbrev pub fragment_read : Streams → Dynamic → OpenBlock → List ℕ → Bool → Result Next Fault × Streams × Dynamic
+fragment_read c t b fragment last =
+    cond (nat_lt 4096 (length c.block + length fragment)) (Err (connection_fault EnhanceYourCalm b.stream), c, t)
+    (cond last (closed (with_open_block (longer c fragment) None) t b)
+    (Ok Done, with_open_block (longer c fragment) (Some b), t))

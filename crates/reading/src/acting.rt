@@ -1,6 +1,7 @@
 // One whole frame: whether it may come now, its own rules, and what it does.
 ghost use Rattle.std.specs.Prelude.{◌≡◌};
 ghost use Rattle.frames.specs.View.{said};
+ghost use Rattle.tables.specs.DynamicTable.{IsHeld};
 ghost use Rattle.reading.specs.Acting.{data_read, credit_read, acted, may_come, frame_read};
 
 use crate::blocks::read_fragment;
@@ -13,9 +14,9 @@ use frames::fault::Fault;
 use frames::flags::Flags;
 use frames::frame::Frame;
 use frames::header::{Header, Kind};
-use octets::Octets;
 use state::queue::Reply;
 use state::streams::{OpenBlock, Streams};
+use tables::table::Table;
 
 // DATA: the whole payload counts against the connection's receiving window, also if its stream has left.
 fn data(
@@ -54,8 +55,8 @@ fn credit(streams: &mut Streams, stream: u32, increment: u32) -> Result<Next, Fa
 }
 
 // What a frame does.
-fn act(streams: &mut Streams, frame: Frame<'_>) -> Result<Next, Fault>
-    ensures { (result, streams.new) ≡ acted streams.old (said frame.entry) }
+fn act(streams: &mut Streams, table: &mut Table, frame: Frame<'_>) -> Result<Next, Fault>
+    ensures { (result, streams.new, table.new) ≡ acted streams.old table.old (said frame.entry) }
 {
     match frame {
         Frame::Data {
@@ -70,12 +71,9 @@ fn act(streams: &mut Streams, frame: Frame<'_>) -> Result<Next, Fault>
             end_headers,
             end_stream,
         } => {
-            let block = OpenBlock {
-                stream,
-                end_stream,
-                octets: Octets::new(),
-            };
-            read_fragment(streams, block, fragment, end_headers)
+            let block = OpenBlock { stream, end_stream };
+            streams.block.clear();
+            read_fragment(streams, table, block, fragment, end_headers)
         }
         Frame::Continuation {
             fragment,
@@ -83,7 +81,7 @@ fn act(streams: &mut Streams, frame: Frame<'_>) -> Result<Next, Fault>
             ..
         } => match streams.open_block {
             None => Ok(Next::Done),
-            Some(block) => read_fragment(streams, block, fragment, end_headers),
+            Some(block) => read_fragment(streams, table, block, fragment, end_headers),
         },
         Frame::RstStream { stream, .. } => arrive(streams, stream, Arrival::Reset, &[]),
         Frame::Settings { list } => read_settings(streams, list),
@@ -110,14 +108,24 @@ fn admits(streams: &Streams, header: Header) -> bool
     (streams.started || first) && fits
 }
 
-// Reads one whole frame.
-pub fn read(streams: &mut Streams, frame: RawFrame<'_>) -> Result<Next, Fault>
-    ensures { (result, streams.new) ≡ frame_read streams.old frame.entry.header frame.entry.payload.now }
+// One whole frame: whether it may come now, and what it does.
+fn admit(streams: &mut Streams, table: &mut Table, frame: RawFrame<'_>) -> Result<Next, Fault>
+    ensures { (result, streams.new, table.new) ≡ frame_read streams.old table.old frame.entry.header frame.entry.payload.now }
 {
     let header = frame.header;
     if !admits(streams, header) {
         return Err(Fault::connection(ErrorCode::ProtocolError, header.stream));
     }
     streams.started = true;
-    act(streams, frame.parse(streams.seen)?)
+    act(streams, table, frame.parse(streams.seen)?)
+}
+
+// Reads one whole frame.
+pub fn read(streams: &mut Streams, table: &mut Table, frame: RawFrame<'_>) -> Result<Next, Fault>
+    ensures value { (result, streams.new, table.new) ≡ frame_read streams.old table.old frame.entry.header frame.entry.payload.now }
+    ensures held { IsHeld table.new }
+{
+    let outcome = admit(streams, table, frame);
+    table.size(); // tells that the entries fit
+    outcome
 }

@@ -12,6 +12,7 @@ use request::heard::{Head, Heard, Malformed};
 use state::place::{Place, Request, Stage};
 use state::search::{lowest_free, place_of, put};
 use state::streams::{OpenBlock, Phase, Streams};
+use tables::table::Table;
 
 // The place of a stream whose first block was read.
 fn make_place(stream: u32, head: Head) -> Place
@@ -48,10 +49,10 @@ fn accept(streams: &mut Streams, stream: u32, end_stream: bool, head: Head) -> R
 // A new stream. It is seen in any case; once the connection is shut it is dropped.
 fn start(
     streams: &mut Streams,
-    block: &OpenBlock,
+    block: OpenBlock,
     first: Result<Head, Malformed>,
 ) -> Result<Next, Fault>
-    ensures { (result, streams.new) ≡ opened streams.old block.now first }
+    ensures { (result, streams.new) ≡ opened streams.old block first }
 {
     streams.seen = block.stream;
     if streams.phase == Phase::Shut {
@@ -62,8 +63,8 @@ fn start(
 }
 
 // A decoded block: trailers where the stream has a place; dropped where it has left; else the stream is new.
-fn hear(streams: &mut Streams, block: &OpenBlock, heard: Heard) -> Result<Next, Fault>
-    ensures { (result, streams.new) ≡ heard_by streams.old block.now heard }
+fn hear(streams: &mut Streams, block: OpenBlock, heard: Heard) -> Result<Next, Fault>
+    ensures { (result, streams.new) ≡ heard_by streams.old block heard }
 {
     if place_of(&streams.places, block.stream).is_some() {
         let arrival = Arrival::Trailers {
@@ -80,31 +81,32 @@ fn hear(streams: &mut Streams, block: &OpenBlock, heard: Heard) -> Result<Next, 
 
 // A closed block is decoded, whatever became of its stream. (By `map_err` and `?` it was tried: the kit's borrow
 // checker then doesn't find the type of a head inside what was heard, which it calls a bug of its own.)
-fn close(streams: &mut Streams, block: &OpenBlock) -> Result<Next, Fault>
-    ensures { (result, streams.new) ≡ closed streams.old block.now }
+fn close(streams: &mut Streams, table: &mut Table, block: OpenBlock) -> Result<Next, Fault>
+    ensures { (result, streams.new, table.new) ≡ closed streams.old table.old block }
 {
-    match read_block(&mut streams.table, block.octets.as_slice()) {
+    match read_block(table, streams.block.as_slice()) {
         Err(place) => Err(Fault::connection(ErrorCode::CompressionError, place as u32)),
         Ok(heard) => hear(streams, block, heard),
     }
 }
 
-// One more fragment of a block, of which `block` came before; `last` closes it.
+// One more fragment of a block, whose octets so far stand among the streams; `last` closes it.
 pub fn read_fragment(
     streams: &mut Streams,
-    mut block: OpenBlock,
+    table: &mut Table,
+    block: OpenBlock,
     fragment: &[u8],
     last: bool,
 ) -> Result<Next, Fault>
-    ensures { (result, streams.new) ≡ fragment_read streams.old block fragment.now last }
+    ensures { (result, streams.new, table.new) ≡ fragment_read streams.old table.old block fragment.now last }
 {
-    block.octets.try_extend(fragment).map_err(|_| Fault::connection(
+    streams.block.try_extend(fragment).map_err(|_| Fault::connection(
         ErrorCode::EnhanceYourCalm,
         block.stream,
     ))?;
     if last {
         streams.open_block = None;
-        return close(streams, &block);
+        return close(streams, table, block);
     }
     streams.open_block = Some(block);
     Ok(Next::Done)

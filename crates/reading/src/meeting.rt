@@ -111,16 +111,24 @@ fn meet(place: Place, initial: u32, arrival: Arrival, body: &[u8]) -> Result<Met
 fn keep(streams: &mut Streams, k: usize, met: Met) -> Next
     ensures { (result, streams.new) ≡ kept streams.old k met }
 {
-    let (slot, next) = match met {
-        Met::Stays(place) => (Some(place), Next::Done),
-        Met::Ends(place) => (Some(place), Next::Ends(k)),
-        Met::Leaves => (None, Next::Done),
-    };
-    put(&mut streams.places, k, slot);
-    next
+    match met {
+        Met::Stays(place) => {
+            put(&mut streams.places, k, Some(place));
+            Next::Done
+        }
+        Met::Ends(place) => {
+            put(&mut streams.places, k, Some(place));
+            Next::Ends(k)
+        }
+        Met::Leaves => {
+            put(&mut streams.places, k, None);
+            Next::Done
+        }
+    }
 }
 
-// What comes for a stream that has left is dropped. `body` is empty but for DATA.
+// What comes for a stream that has left is dropped. `body` is empty but for DATA. (A place is some 400 octets, which
+// `map_err` and `?` copy once more each.)
 pub fn arrive(
     streams: &mut Streams,
     stream: u32,
@@ -135,8 +143,8 @@ pub fn arrive(
     let Some(place) = slot_at(&streams.places, k) else {
         return Ok(Next::Done);
     };
-    let met = meet(place, streams.initial, arrival, body).map_err(|code| Fault::stream(
-        code, stream,
-    ))?;
-    Ok(keep(streams, k, met))
+    match meet(place, streams.initial, arrival, body) {
+        Ok(met) => Ok(keep(streams, k, met)),
+        Err(code) => Err(Fault::stream(code, stream)),
+    }
 }

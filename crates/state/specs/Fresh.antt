@@ -1,20 +1,18 @@
 -- A connection that was just opened.
-use Rattle.std.specs.Prelude.{false, [], replicate, None}
-use Rattle.arrayvec.specs.ArrayVec.{ArrayVec}
+use Rattle.std.specs.Prelude.{List, false, [], replicate, None}
 use Rattle.state.specs.declared.engine.Core.{Core}
 use Rattle.state.specs.declared.streams.Phase.TheVariants.{Open}
 use Rattle.state.specs.declared.queue.Reply.{Reply}
 use Rattle.state.specs.declared.streams.Streams.{Streams}
-use Rattle.tables.specs.DynamicTable as dynamic
 
--- No stream has a place, no block is open, the decoder's table is empty, and all windows are 65,535.
+-- No stream has a place, no block is open, and all windows are 65,535.
 abbrev pub fresh_streams : Streams
 fresh_streams = record {
   phase = Open;
   places = replicate 16 None;
   started = false;
   open_block = None;
-  table = dynamic.fresh;
+  block = [];
   seen = 0;
   accepted = 0;
   initial = 65535;
@@ -23,8 +21,8 @@ fresh_streams = record {
   shrink = false;
 }
 
-abbrev pub no_replies : ArrayVec Reply
-no_replies = record { items = [] }
+abbrev pub no_replies : List Reply
+no_replies = []
 
 -- Nothing is recorded or sent, and no GOAWAY is due.
 abbrev pub fresh : Core

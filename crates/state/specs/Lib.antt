@@ -1,4 +1,5 @@
 pub mod Setters
+pub mod Queues
 pub mod Places
 pub mod Phases
 pub mod Fresh

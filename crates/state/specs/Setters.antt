@@ -1,6 +1,5 @@
 -- The same state with one part changed: one definition for each part that some rule changes.
 use Rattle.std.specs.Prelude.{ℕ, Bool, List, Option}
-use Rattle.arrayvec.specs.ArrayVec.{ArrayVec}
 use Rattle.frames.specs.declared.code.ErrorCode.{ErrorCode}
 use Rattle.state.specs.declared.place.Place.{Place}
 use Rattle.state.specs.declared.place.Stage.{Stage}
@@ -9,7 +8,6 @@ use Rattle.state.specs.declared.streams.OpenBlock.{OpenBlock}
 use Rattle.state.specs.declared.streams.Streams.{Streams}
 use Rattle.state.specs.declared.engine.Core.{Core}
 use Rattle.state.specs.declared.streams.Phase.{Phase}
-use Rattle.tables.specs.DynamicTable.{Dynamic}
 
 abbrev pub with_phase : Streams → Phase → Streams
 with_phase c x = record c { phase = x }
@@ -23,8 +21,8 @@ with_started c x = record c { started = x }
 abbrev pub with_open_block : Streams → Option OpenBlock → Streams
 with_open_block c x = record c { open_block = x }
 
-abbrev pub with_table : Streams → Dynamic → Streams
-with_table c x = record c { table = x }
+abbrev pub with_block : Streams → List ℕ → Streams
+with_block c x = record c { block = x }
 
 abbrev pub with_seen : Streams → ℕ → Streams
 with_seen c x = record c { seen = x }
@@ -47,7 +45,7 @@ with_shrink c x = record c { shrink = x }
 abbrev pub with_streams : Core → Streams → Core
 with_streams c x = record c { streams = x }
 
-abbrev pub with_queue : Core → ArrayVec Reply → Core
+abbrev pub with_queue : Core → List Reply → Core
 with_queue c x = record c { queue = x }
 
 abbrev pub with_recorded : Core → ℕ → Core

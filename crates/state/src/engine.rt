@@ -1,13 +1,13 @@
-// The whole state of a connection but for the scheduler and the site.
+// The whole state of a connection but for the decoder's table, the scheduler and the site.
 ghost use Rattle.std.specs.Prelude.{◌≡◌};
 ghost use Rattle.state.specs.Fresh.{fresh};
 
 use crate::queue::Queue;
 use crate::streams::{Phase, Streams};
 use frames::code::ErrorCode;
-use tables::table::Table;
+use octets::Octets;
 
-#[derive(Drop)]
+#[derive(Clone, Copy)]
 pub struct Core {
     pub streams: Streams,
     pub queue: Queue,
@@ -29,7 +29,7 @@ impl Core {
             places: [None; 16],
             started: false,
             open_block: None,
-            table: Table::new(),
+            block: Octets::new(),
             seen: 0,
             accepted: 0,
             initial: 65_535,

@@ -1,7 +1,6 @@
 // What the frames that are read act on.
 use crate::place::Place;
 use octets::Octets;
-use tables::table::Table;
 
 #[derive(Clone, Copy, Debug, PartialEq, Eq)]
 pub enum Phase {
@@ -12,16 +11,15 @@ pub enum Phase {
     Ended,
 }
 
-// A field block whose last fragment has not come: its stream, whether its HEADERS had END_STREAM, and the octets so
-// far.
+// A field block whose last fragment has not come: its stream, and whether its HEADERS had END_STREAM. Its octets so far
+// stand among the streams, where each fragment is laid behind them, so that no frame copies those that came before.
 #[derive(Clone, Copy)]
 pub struct OpenBlock {
     pub stream: u32,
     pub end_stream: bool,
-    pub octets: Octets<4096>,
 }
 
-#[derive(Drop)]
+#[derive(Clone, Copy)]
 pub struct Streams {
     pub phase: Phase,
     // The stream of each place, if it has one.
@@ -29,8 +27,8 @@ pub struct Streams {
     // Whether the first frame was read.
     pub started: bool,
     pub open_block: Option<OpenBlock>,
-    // The decoder's dynamic table, which the field blocks of all streams share.
-    pub table: Table,
+    // The octets of the open block; where none is open, those of the last.
+    pub block: Octets<4096>,
     // The highest stream of any HEADERS.
     pub seen: u32,
     // The last stream that got a place, 0 if none did, as GOAWAY tells it.

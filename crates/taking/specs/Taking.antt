@@ -1,6 +1,5 @@
 -- All of `take` but for the site.
 use Rattle.std.specs.Prelude.{ℕ, ◌+◌, cond, List, [], ◌∷◌, ◌++◌, length, replicate, Some, None, Ok, Err, Option, Result, nat_le}
-use Rattle.arrayvec.specs.ArrayVec.{ArrayVec, array_vec_len}
 use Rattle.frames.specs.declared.code.ErrorCode.{ErrorCode}
 use Rattle.frames.specs.declared.fault.Fault.{Fault}
 use Rattle.frames.specs.declared.fault.Scope.{Scope}
@@ -20,6 +19,7 @@ use Rattle.state.specs.declared.streams.Streams.{Streams}
 use Rattle.state.specs.Phases.{has_ended}
 use Rattle.state.specs.Refusals.{refusal_of}
 use Rattle.state.specs.Setters.{with_places, with_streams, with_queue, with_goaway, with_phase}
+use Rattle.tables.specs.DynamicTable.{Dynamic}
 use Rattle.taking.specs.declared.ending.Asks.{Asks}
 use Rattle.reading.specs.declared.meeting.Arrival.TheVariants.{Reset}
 use Rattle.reading.specs.declared.next.Next.{Next}
@@ -30,11 +30,11 @@ use Rattle.reading.specs.Acting.{frame_read}
 use Rattle.taking.specs.Ending.{request_ended}
 
 -- A reply behind those that wait.
-abbrev pub queued : ArrayVec Reply → Reply → ArrayVec Reply
-queued q reply = record { items = q.items ++ reply ∷ [] }
+abbrev pub queued : List Reply → Reply → List Reply
+queued q reply = q ++ reply ∷ []
 
-abbrev pub emptied : ArrayVec Reply
-emptied = record { items = [] }
+abbrev pub emptied : List Reply
+emptied = []
 
 -- A fault of the connection frees all places, drops the replies and any unsent GOAWAY, makes GOAWAY with its code due, and
 -- ends the connection.
@@ -69,26 +69,29 @@ concluded c (Ok (Replies reply)) read book = (step_of read None None, with_queue
 concluded c (Ok (Ends k)) read book = finished read (request_ended c k book)
 concluded c (Err fault) read book = (step_of (octets_at fault.scope read) (Some fault) None, failed c fault.scope fault, book)
 
-abbrev pub after_frame : Core → Result Next Fault × Streams → ℕ → List Record → Step × Core × List Record
-after_frame c r read book = concluded (with_streams c r.1) r.0 read book
+abbrev pub with_table : Dynamic → Step × Core × List Record → Step × Core × Dynamic × List Record
+with_table t s = (s.0, s.1, t, s.2)
+
+abbrev pub after_frame : Core → Result Next Fault × Streams × Dynamic → ℕ → List Record → Step × Core × Dynamic × List Record
+after_frame c r read book = with_table r.2 (concluded (with_streams c r.1) r.0 read book)
 
 -- One whole frame: its own rules, then what is left to do.
-abbrev pub framed : Core → Header → List ℕ → List Record → Step × Core × List Record
-framed c h payload book = after_frame c (frame_read c.streams h payload) (9 + length payload) book
+abbrev pub framed : Core → Dynamic → Header → List ℕ → List Record → Step × Core × Dynamic × List Record
+framed c t h payload book = after_frame c (frame_read c.streams t h payload) (9 + length payload) book
 
-abbrev pub stepped_ok : Step × Core × List Record → Result Step Refusal × Core × List Record
-stepped_ok s = (Ok s.0, s.1, s.2)
+abbrev pub stepped_ok : Step × Core × Dynamic × List Record → Result Step Refusal × Core × Dynamic × List Record
+stepped_ok s = (Ok s.0, s.1, s.2, s.3)
 
 -- What stands at the front of the octets: no whole frame is refused, and a length field above 16,384 is a fault of the
 -- connection before anything else is asked of the frame.
-abbrev pub stepped_piece : Core → Result (Header × List ℕ) Unread → List Record → Result Step Refusal × Core × List Record
-stepped_piece c (Err (Refused r)) book = (Err (refusal_of r), c, book)
-stepped_piece c (Err (Faulty fault)) book = stepped_ok (concluded c (Err fault) 0 book)
-stepped_piece c (Ok p) book = stepped_ok (framed c p.0 p.1 book)
+abbrev pub stepped_piece : Core → Dynamic → Result (Header × List ℕ) Unread → List Record → Result Step Refusal × Core × Dynamic × List Record
+stepped_piece c t (Err (Refused r)) book = (Err (refusal_of r), c, t, book)
+stepped_piece c t (Err (Faulty fault)) book = stepped_ok (with_table t (concluded c (Err fault) 0 book))
+stepped_piece c t (Ok p) book = stepped_ok (framed c t p.0 p.1 book)
 
 -- The questions in order; a refusal leaves everything as it was.
-abbrev pub stepped : Core → List ℕ → List Record → Result Step Refusal × Core × List Record
-stepped c octets book =
-    cond (has_ended c.streams.phase) (Err refusal.Ended, c, book)
-    (cond (nat_le 32 (array_vec_len c.queue)) (Err refusal.RepliesWaiting, c, book)
-    (stepped_piece c (cut_of octets) book))
+abbrev pub stepped : Core → Dynamic → List ℕ → List Record → Result Step Refusal × Core × Dynamic × List Record
+stepped c t octets book =
+    cond (has_ended c.streams.phase) (Err refusal.Ended, c, t, book)
+    (cond (nat_le 32 (length c.queue)) (Err refusal.RepliesWaiting, c, t, book)
+    (stepped_piece c t (cut_of octets) book))

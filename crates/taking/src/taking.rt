@@ -1,6 +1,6 @@
 // All of `take` but for the site: its questions in order, one frame, and what is left to do after it.
-ghost use Rattle.std.specs.Prelude.{◌≡◌, ◌<◌};
-ghost use Rattle.arrayvec.specs.ArrayVec.{array_vec_len};
+ghost use Rattle.std.specs.Prelude.{◌≡◌, ◌<◌, length};
+ghost use Rattle.tables.specs.DynamicTable.{IsHeld};
 ghost use Rattle.taking.specs.Taking.{connection_ended, concluded, framed, stepped};
 
 use crate::ending::{Asks, end_request};
@@ -15,6 +15,7 @@ use state::engine::Core;
 use state::queue::Reply;
 use state::refusal::Refusal;
 use state::streams::Phase;
+use tables::table::Table;
 
 // One frame that was read: how many octets it has, 0 at a fault of the connection; and its fault.
 #[derive(Clone, Copy, Debug, PartialEq, Eq)]
@@ -49,7 +50,7 @@ fn conclude(
     octets: usize,
     book: &mut [Record],
 ) -> Step
-    requires { array_vec_len core.old.queue < 32 }
+    requires { length core.old.queue < 32 }
     ensures { (result, core.new, book.new) ≡ concluded core.old outcome octets book.old }
 {
     let mut step = Step {
@@ -78,20 +79,28 @@ fn conclude(
 }
 
 // Reads one whole frame.
-fn take_frame(core: &mut Core, frame: RawFrame<'_>, book: &mut [Record]) -> Step
-    requires { array_vec_len core.old.queue < 32 }
-    ensures { (result, core.new, book.new) ≡ framed core.old frame.entry.header frame.entry.payload.now book.old }
+fn take_frame(core: &mut Core, table: &mut Table, frame: RawFrame<'_>, book: &mut [Record]) -> Step
+    requires { length core.old.queue < 32 }
+    ensures value { (result, core.new, table.new, book.new) ≡ framed core.old table.old frame.entry.header frame.entry.payload.now book.old }
+    ensures held { IsHeld table.new }
 {
-    let outcome = read(&mut core.streams, frame);
+    let outcome = read(&mut core.streams, table, frame);
     conclude(core, outcome, 9 + frame.payload.len(), book)
 }
 
 // Takes one frame from the front of the octets. The questions, in order: has the connection ended? Do 32 replies wait?
 // Are nine octets there, is the length field lawful, is the frame whole? The book is the caller's, lent to each call:
-// here and below it goes beside the core.
-pub fn take_step(core: &mut Core, octets: &[u8], book: &mut [Record]) -> Result<Step, Refusal>
-    ensures { (result, core.new, book.new) ≡ stepped core.old octets.now book.old }
+// here and below it goes beside the core, and so does the decoder's table, so that the core is copied as plain memory.
+pub fn take_step(
+    core: &mut Core,
+    table: &mut Table,
+    octets: &[u8],
+    book: &mut [Record],
+) -> Result<Step, Refusal>
+    ensures value { (result, core.new, table.new, book.new) ≡ stepped core.old table.old octets.now book.old }
+    ensures held { IsHeld table.new }
 {
+    table.size(); // tells that the entries fit
     if core.streams.phase == Phase::Ended {
         return Err(Refusal::Ended);
     }
@@ -101,6 +110,6 @@ pub fn take_step(core: &mut Core, octets: &[u8], book: &mut [Record]) -> Result<
     match cut_frame(octets) {
         Err(Unread::Refused(refusal)) => Err(refusal.into()),
         Err(Unread::Faulty(fault)) => Ok(conclude(core, Err(fault), 0, book)),
-        Ok(frame) => Ok(take_frame(core, frame, book)),
+        Ok(frame) => Ok(take_frame(core, table, frame, book)),
     }
 }
