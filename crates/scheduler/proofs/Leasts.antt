@@ -1,14 +1,10 @@
 -- The least lead of the offering places, one place on and in words.
-use Rattle.std.proofs.Common.{◌≡◌, ℕ, zero, suc, ◌<◌, ◌≤◌, min, ltb, List, map, filter, length, get_or, Some, None, Option, refl, inl, inr, arith}
-use Rattle.std.specs.List.{reduce, zip}
-use Rattle.std.proofs.lemmas.List.{take_all}
-use Rattle.std.proofs.lemmas.Slice.Zip.{get_or-zip, length-zip}
-use Rattle.std.proofs.lemmas.Bool.{cond_both, ltb-true, ltb-false, cases_lt}
+use Rattle.std.proofs.Common.{◌≡◌, ℕ, zero, suc, ◌+◌, ◌≤◌, true, false, cond, ltb, List, get_or, Some, None, Option, refl, inl, inr, ◌∙◌, add-one, arith}
+use Rattle.std.proofs.lemmas.Bool.{cond_both, ltb-true, ltb-false, cases_lt, cond-true, cond-false}
 use Rattle.scheduler.specs.declared.offer.Offer.{Offer}
-use Rattle.scheduler.specs.Offers.{nothing, octets_at, Offering}
+use Rattle.scheduler.specs.Offers.{octets_at, Offering}
 use Rattle.scheduler.specs.Urgencies.{lesser, least_lead}
 use Rattle.scheduler.specs.Chosen.{LeastIs}
-use Rattle.scheduler.proofs.Kept.{kept, kept-more}
 
 module _ (leads : List ℕ) (os : List Offer) where
   least-in : (o : Option ℕ) (n : ℕ) → Offering os n → LeastIs leads os n o → LeastIs leads os (suc n) (lesser o (get_or leads n 0))
@@ -33,16 +29,16 @@ module _ (leads : List ℕ) (os : List Offer) where
       (λ e. least-in (least_lead leads os n) n (ltb-true 0 (octets_at os n) e) (least-holds n))
       (λ e. least-out (least_lead leads os n) n (ltb-false 0 (octets_at os n) e) (least-holds n))
 
-  kept-least : (n : ℕ) → n ≤ length os → n ≤ length leads → kept min (λ (p : Offer × ℕ). p.1) (λ p. ltb 0 p.0.octets) (zip os leads) n ≡ least_lead leads os n
+  pub least_none : least_lead leads os 0 ≡ None
   unfolding least_lead
-  kept-least zero ho hl = refl
-  kept-least (suc n) ho hl =
-      let at = get_or-zip os leads n (nothing, 0) (omega arith) (omega arith) in
-      let long : n < length (zip os leads) = simp length-zip (omega arith) in
-      let before = kept-least n (omega arith) (omega arith) in
-      rw (kept-more min (λ (p : Offer × ℕ). p.1) (λ p. ltb 0 p.0.octets) (zip os leads) n (nothing, 0) _ long at, before) refl
+  least_none = refl
 
-  pub least-kept : length os ≡ 16 → length leads ≡ 16 → reduce min (map (λ p. p.1) (filter (λ (p : Offer × ℕ). ltb 0 p.0.octets) (zip os leads))) ≡ least_lead leads os 16
-  least-kept ho hl =
-      let long : length (zip os leads) ≤ 16 = simp length-zip (omega arith) in
-      rw (← take_all 16 (zip os leads) long) (kept-least 16 (omega arith) (omega arith))
+  least_more : (n : ℕ) → least_lead leads os (n + 1) ≡ cond (ltb 0 (octets_at os n)) (lesser (least_lead leads os n) (get_or leads n 0)) (least_lead leads os n)
+  unfolding least_lead
+  least_more n = rw add-one refl
+
+  pub least-takes : (n : ℕ) → ltb 0 (octets_at os n) ≡ true → least_lead leads os (n + 1) ≡ lesser (least_lead leads os n) (get_or leads n 0)
+  least-takes n h = least_more n ∙ cond-true _ _ _ h
+
+  pub least-skips : (n : ℕ) → ltb 0 (octets_at os n) ≡ false → least_lead leads os (n + 1) ≡ least_lead leads os n
+  least-skips n h = least_more n ∙ cond-false _ _ _ h

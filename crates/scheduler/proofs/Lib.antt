@@ -9,5 +9,4 @@ pub mod Orders
 pub mod Bests
 pub mod Urgents
 pub mod Runs
-pub mod Kept
 pub mod Ranks

@@ -1,5 +1,5 @@
 -- Which place leashed urgency picks, in words: the one that precedes every other eligible place.
-use Rattle.std.specs.Prelude.{◌≡◌, ℕ, ◌<◌, ◌≤◌, true, false, cond, ◌⊎◌, List, Some, None, Option, ◌≢◌, slice_index}
+use Rattle.std.specs.Prelude.{◌≡◌, ℕ, ◌<◌, ◌≤◌, true, false, Bool, cond, ◌⊎◌, List, Some, None, Option, ◌==◌, ◌≢◌, nat_lt, slice_index}
 use Rattle.scheduler.specs.declared.offer.Offer.{Offer}
 use Rattle.scheduler.specs.declared.urgency.Rank.{Rank}
 use Rattle.scheduler.specs.Offers.{octets_at, offer_at, Offering, Quiet}
@@ -20,6 +20,18 @@ tie o lead = cond o.incremental lead o.stream
 -- What ranks a place with an offer at a lead.
 abbrev pub rank_of : ℕ → Offer → ℕ → Rank
 rank_of place o lead = record { urgency = o.urgency; incremental = o.incremental; tie = tie o lead; place = place }
+
+-- Whether rank a goes before rank b of a lower place: by urgency, flag and tie; b stays first where these are alike.
+abbrev pub outranks : Rank → Rank → Bool
+outranks a b =
+    cond (a.urgency == b.urgency)
+    (cond a.incremental (cond b.incremental (nat_lt a.tie b.tie) false) (cond b.incremental true (nat_lt a.tie b.tie)))
+    (nat_lt a.urgency b.urgency)
+
+-- The first of the best rank of the lower places, if any, and rank a of a higher place.
+abbrev pub first_rank : Option Rank → Rank → Rank
+first_rank None a = a
+first_rank (Some b) a = cond (outranks a b) a b
 
 -- Place p goes before place q: by urgency number, flag, tie and place, in this order.
 abbrev pub Precedes : List ℕ → List Offer → ℕ → ℕ → Type 0

@@ -69,6 +69,28 @@ impl Offer {
         self.octets
     }
 
+    // How urgent it is, 0 the most.
+    pub fn urgency(&self) -> u8
+        ensures value { result ≡ self.now.urgency }
+        ensures bound { result ≤ 7 }
+    {
+        self.urgency // of eight
+    }
+
+    // Whether its octets are of use as they come.
+    pub fn incremental(&self) -> bool
+        ensures { result ≡ self.now.incremental }
+    {
+        self.incremental
+    }
+
+    // The stream that it is for.
+    pub fn stream(&self) -> u32
+        ensures { result ≡ self.now.stream }
+    {
+        self.stream
+    }
+
     // Whether there is anything to send.
     pub fn has_octets(&self) -> bool
         ensures { result ≡ nat_lt 0 self.now.octets }

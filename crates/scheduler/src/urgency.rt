@@ -1,9 +1,9 @@
 // The most urgent first, of the places that are not too far ahead.
-ghost use Rattle.std.specs.Prelude.{◌≡◌, ℕ, ◌+◌, ◌-◌, ◌<◌, ◌≤◌, replicate, slice_index};
+ghost use Rattle.std.specs.Prelude.{◌≡◌, ℕ, ◌+◌, ◌-◌, ◌<◌, ◌≤◌, ◌&&◌, Some, nat_le, nat_lt, replicate, slice_index};
 ghost use Rattle.scheduler.specs.Fair.{Fair};
-ghost use Rattle.scheduler.specs.Urgencies.{least_lead, lessened, best, urgency_pick};
+ghost use Rattle.scheduler.specs.Urgencies.{leash, lesser as lesser_of, least_lead, lessened, best, urgency_pick};
 ghost use Rattle.scheduler.specs.Debts.{most_lead, urgency_lag, urgency_debt};
-ghost use Rattle.scheduler.specs.Chosen.{LeastIs, ChosenIs, rank_of, Foremost};
+ghost use Rattle.scheduler.specs.Chosen.{LeastIs, ChosenIs, rank_of, outranks, first_rank, Foremost};
 ghost use Rattle.scheduler.specs.Laws.{urgency_debt_bounded};
 
 use super::meaning::Scheduler;
@@ -54,6 +54,39 @@ impl Rank {
             place,
         }
     }
+
+    // Whether it goes before the rank of a lower place, which stays first where they differ by the place alone.
+    fn beats(&self, lower: &Rank) -> bool
+        ensures { result ≡ outranks self.now lower.now }
+    {
+        if self.urgency != lower.urgency {
+            return self.urgency < lower.urgency;
+        }
+        if self.incremental != lower.incremental {
+            return lower.incremental;
+        }
+        self.tie < lower.tie
+    }
+
+    // The first of the best rank of the lower places, if any, and this.
+    fn or(self, lower: Option<Rank>) -> Rank
+        ensures { result ≡ first_rank lower self }
+    {
+        match lower {
+            Some(best) if !self.beats(&best) => best,
+            _ => self,
+        }
+    }
+}
+
+// The lesser of the least so far, if any, and a further lead.
+fn lesser(least: Option<u32>, lead: u32) -> u32
+    ensures { Some result ≡ lesser_of least lead }
+{
+    match least {
+        None => lead,
+        Some(least) => least.min(lead),
+    }
 }
 
 // The least lead of the offering places.
@@ -61,19 +94,31 @@ fn least(leads: &[u32; 16], offers: &Row) -> Option<u32>
     ensures value { result ≡ least_lead leads.now offers.now 16 }
     ensures cases { LeastIs leads.now offers.now 16 result }
 {
-    offers
-        .iter()
-        .zip(leads)
-        .filter(|(offer, _)| offer.has_octets())
-        .map(|(_, lead)| *lead)
-        .min()
+    let mut least = None;
+    for (place, offer) in offers.iter().enumerate() {
+        if offer.has_octets() {
+            least = Some(lesser(least, leads[place]));
+        }
+    }
+    least
 }
 
 // All leads less by, not below 0.
 fn lowered(leads: &[u32; 16], by: u32) -> [u32; 16]
     ensures { result ≡ lessened leads.now by }
 {
-    leads.map(|lead| lead.saturating_sub(by))
+    let mut lowered = *leads;
+    for lead in lowered.iter_mut() {
+        *lead = lead.saturating_sub(by);
+    }
+    lowered
+}
+
+// Whether a place with an offer at a lead may be picked.
+fn may(offer: &Offer, lead: u32) -> bool
+    ensures { result ≡ (nat_lt 0 offer.now.octets && nat_le lead leash) }
+{
+    offer.has_octets() && lead <= LEASH
 }
 
 // The best of the places that may be picked.
@@ -81,14 +126,13 @@ fn chosen(leads: &[u32; 16], offers: &Row) -> Option<usize>
     ensures value { result ≡ best leads.now offers.now 16 }
     ensures cases { ChosenIs leads.now offers.now 16 result }
 {
-    offers
-        .iter()
-        .zip(leads)
-        .enumerate()
-        .filter(|(_, (offer, lead))| offer.has_octets() && **lead <= LEASH)
-        .map(|(place, (offer, lead))| Rank::new(place, offer, *lead))
-        .min()
-        .map(|rank| rank.place)
+    let mut first = None;
+    for (place, offer) in offers.iter().enumerate() {
+        if may(offer, leads[place]) {
+            first = Some(Rank::new(place, offer, leads[place]).or(first));
+        }
+    }
+    first.map(|rank| rank.place)
 }
 
 impl Scheduler for Urgency {
