@@ -6,7 +6,10 @@ ghost use Rattle.site.specs.Sites.{Filled};
 pub(crate) fn copy_from(held: &[u8], offset: usize, buffer: &mut [u8]) -> usize
     ensures { Filled held.now offset buffer.old buffer.new result }
 {
-    let rest = held.get(offset..).unwrap_or_default();
+    if offset >= held.len() {
+        return 0;
+    }
+    let rest = &held[offset..];
     let n = rest.len().min(buffer.len());
     buffer[..n].copy_from_slice(&rest[..n]);
     n

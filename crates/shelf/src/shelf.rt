@@ -1,5 +1,5 @@
 // The shelf: a site over a row of lent octets that is made of entries, each a path with its content.
-ghost use Rattle.std.specs.Prelude.{◌≡◌, ℕ, [], true, is_ok, MatchResult};
+ghost use Rattle.std.specs.Prelude.{◌≡◌, ℕ, [], is_ok, MatchResult};
 ghost use Rattle.shelf.specs.Shelves.{shelf_held, shelf_named, well_formed};
 ghost use Rattle.site.specs.Spans.{Finds, within};
 ghost use Rattle.shelf.specs.Laws.{shelf_bounded, shelf_held_beyond, shelf_held_short};
@@ -12,13 +12,11 @@ use site::site::Site;
 use site::span::Span;
 use site::table::Table;
 
-// A shelf over a lender of octets, as `Shelf<&[u8]>`.
+// A shelf over a lender of octets, as `Shelf<&[u8]>`. The octets are well formed: only `new` makes a shelf.
 #[derive(Drop)]
-pub struct Shelf<L: Lends> {
+pub struct Shelf<L> {
     lender: L,
     table: Table,
-    // The octets are well formed from first to last.
-    ghost sound: { well_formed (L.Lends.lent lender) ≡ true },
 }
 
 // A row is refused unless it is made of entries from first to last.

@@ -8,7 +8,7 @@ ghost use Rattle.slices.specs.Laws.{slice_bounded, slice_held_beyond, slice_held
 use super::range::ask;
 use site::site::Site;
 use site::span::Span;
-use site::table::Table;
+use site::table::{PLACES, Table};
 
 #[derive(Drop)]
 pub struct Slice<S> {
@@ -55,6 +55,9 @@ impl<S: Site> Site for Slice<S> {
     ghost beyond = { λ s place high. slice_held_beyond (S.Site.holds s.below) s.ranges.spans place high };
 
     fn open(&mut self, place: usize, path: &[u8]) -> Option<u32> {
+        if place >= PLACES {
+            return None;
+        }
         let found = find(&mut self.below, place, path);
         self.ranges.hold(place, found)
     }
@@ -62,6 +65,9 @@ impl<S: Site> Site for Slice<S> {
     fn fill(&self, place: usize, offset: usize, buffer: &mut [u8]) -> usize {
         let range = self.ranges.span_at(place);
         let n = range.room(offset, buffer);
+        if n == 0 {
+            return 0;
+        }
         self.below.fill(place, range.start.saturating_add(offset), &mut buffer[..n])
     }
 }
