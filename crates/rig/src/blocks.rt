@@ -1,10 +1,11 @@
-// Field blocks in words: fields as they are handed on.
+// Field blocks in words: fields as they are handed on, and the table after them.
 ghost use Rattle.std.specs.Prelude.{◌≡◌};
 
 use crate::output::Output;
 use hpack::decode::Fold;
 use std::cell::Cell;
 use std::fmt;
+use tables::table::Table;
 
 // Octets as text; what is no printable ASCII character, or a backslash, is `\xNN`. (The RFC's examples print each octet
 // as its character instead.)
@@ -45,5 +46,25 @@ impl<'r> Fold for Printer<'r> {
         if told.is_err() {
             self.failed.set(true);
         }
+    }
+}
+
+// The entries of a table, the newest first, each with its index; then what all cost. They are told in one piece, since
+// each piece has a buffer and a write of its own.
+#[derive(Clone, Copy)]
+pub struct ShownTable<'a> {
+    pub table: &'a Table,
+    pub line: usize,
+}
+
+impl fmt::Display for ShownTable<'_> {
+    fn fmt<W: fmt::Write>(&self, f: &mut fmt::Formatter<W>) -> fmt::Result {
+        let line = self.line;
+        for (place, (name, value)) in self.table.entries().enumerate() {
+            let index = place.wrapping_add(62);
+            writeln!(f, "{line} table {index} {}: {}", Text(name), Text(value))?;
+        }
+        let size = self.table.size();
+        write!(f, "{line} table size {size}")
     }
 }

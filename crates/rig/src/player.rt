@@ -2,7 +2,7 @@
 ghost use Rattle.std.specs.Prelude.{◌≡◌, ◌≤◌};
 ghost use Rattle.rig.specs.Seen.{seen_after};
 
-use crate::blocks::{Printer, Text};
+use crate::blocks::{Printer, ShownTable};
 use crate::fetching::fetched;
 use crate::output::Output;
 use crate::picking::Contest;
@@ -163,10 +163,11 @@ impl Player {
                 "block fault C9 at {place}  # the table stays as it was then"
             ))?,
         }
-        for (place, (name, value)) in self.table.entries().enumerate() {
-            output.tell(format_args!("table {} {}: {}", place + 62, Text(name), Text(value)))?;
-        }
-        output.tell(format_args!("table size {}", self.table.size()))?;
+        let table = ShownTable {
+            table: &self.table,
+            line: output.line,
+        };
+        println!(output.rt; "{table}")?;
         Ok(())
     }
 
