@@ -7,6 +7,7 @@ ghost use Rattle.rig.specs.Fetched.{Fetched, under};
 use script::line::{Base, Layers, Site};
 use shelf::refusal::Refusal;
 use shelf::shelf::Shelf;
+use shelf::sound::Sound;
 use site::line::LineTest;
 use slices::slice::Slice;
 use slices::survey::{Survey, fetch};
@@ -30,7 +31,7 @@ pub fn fetched(site: &Site<Vec<u8>>, path: &[u8]) -> Result<Option<Survey>, Refu
     match &site.base {
         Base::LineTest => Ok(layered(site.layers, LineTest::new(), path)),
         Base::Shelf(octets) => {
-            let shelf = Shelf::new(octets.as_slice())?;
+            let shelf = Shelf::over(Sound::new(octets.as_slice())?);
             Ok(layered(site.layers, shelf, path))
         }
     }

@@ -6,3 +6,4 @@ mod entries;
 pub mod lends;
 pub mod refusal;
 pub mod shelf;
+pub mod sound;

@@ -8,11 +8,13 @@ use super::copy::copy_from;
 use super::entries::Entries;
 use super::lends::Lends;
 use super::refusal::Refusal;
+use super::sound::Sound;
 use site::site::Site;
 use site::span::Span;
 use site::table::Table;
 
-// A shelf over a lender of octets, as `Shelf<&[u8]>`. The octets are well formed: only `new` makes a shelf.
+// A shelf over a lender of octets, as `Shelf<&[u8]>`. The octets are well formed: only `new` and `over` make
+// a shelf.
 #[derive(Drop)]
 pub struct Shelf<L> {
     lender: L,
@@ -21,7 +23,7 @@ pub struct Shelf<L> {
 
 // A row is refused unless it is made of entries from first to last.
 #[tactic(auto, using(crate::proofs::Rows::formed_items))]
-fn check(row: &[u8]) -> Result<(), Refusal>
+pub(crate) fn check(row: &[u8]) -> Result<(), Refusal>
     ensures { is_ok result ≡ well_formed row.now }
 {
     for entry in (Entries { rest: row }) {
@@ -61,6 +63,19 @@ impl<L: Lends + Drop> Shelf<L> {
         check(lender.octets())?;
         let table = Table::new();
         Ok(Shelf { lender, table })
+    }
+}
+
+impl<L: Lends + Drop> Shelf<Sound<L>> {
+    // A shelf over octets that were found well formed before, so that nothing is refused. Its places hold nothing.
+    pub fn over(lender: Sound<L>) -> Shelf<Sound<L>>
+        ensures lender { result.lender ≡ lender }
+        ensures empty { (place : ℕ) → shelf_held (L.Lends.lent lender.lender) result.table.spans place ≡ [] }
+    {
+        Shelf {
+            lender,
+            table: Table::new(),
+        }
     }
 }
 

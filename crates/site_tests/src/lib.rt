@@ -4,6 +4,7 @@
 #[cfg(test)]
 mod tests {
     use shelf::shelf::Shelf;
+    use shelf::sound::Sound;
     use site::line::LineTest;
     use site::site::Site;
     use slices::slice::Slice;
@@ -74,6 +75,22 @@ mod tests {
         assert!(rt; buffer == *b"one\x00");
         assert_eq!(rt; shelf.open(0, b"/b"), None);
         assert_eq!(rt; shelf.fill(0, 0, &mut buffer), 0);
+        Ok(())
+    }
+
+    #[test]
+    fn octets_found_well_formed_make_a_shelf_that_nothing_refuses(
+        rt: HostRuntime,
+    ) -> Result<(), Fail> {
+        let sheets = Sound::new(SHEETS).map_err(|_| Fail::new("refused"))?;
+        let mut shelf = Shelf::over(sheets);
+        let mut buffer = [0u8; 4];
+        assert_eq!(rt; shelf.fill(0, 0, &mut buffer), 0, "holds nothing at first");
+        assert_eq!(rt; shelf.open(0, b"/a"), Some(3));
+        assert_eq!(rt; shelf.fill(0, 0, &mut buffer), 3);
+        assert!(rt; buffer == *b"one\x00");
+        let cut = Sound::new(&SHEETS[..5]).err().map(u8::from);
+        assert_eq!(rt; cut, Some(50), "cut size");
         Ok(())
     }
 
