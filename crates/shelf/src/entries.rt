@@ -1,8 +1,8 @@
 // The entries of a shelf, read one after another from the front of a row of octets.
-ghost use Rattle.std.specs.Prelude.{◌≡◌, ◌≤◌, length};
+ghost use Rattle.std.specs.Prelude.{◌≡◌, ◌≤◌, is_ok, length};
 ghost use Rattle.std.specs.Iterator.{YieldsFirstBy, item_count};
 ghost use Rattle.std.specs.Option.{option_map};
-ghost use Rattle.shelf.specs.Shelves.{entry_of, items_of};
+ghost use Rattle.shelf.specs.Shelves.{entry_of, items_of, well_formed};
 ghost use Rattle.site.specs.Spans.{within};
 ghost use Rattle.shelf.specs.Laws.{Lies};
 ghost use Rattle.shelf.specs.Views.{view_entry, view_item};
@@ -83,4 +83,15 @@ impl<'a> Iterator for Entries<'a> {
         self.rest = entry.rest;
         Some(Ok(entry))
     }
+}
+
+// A row is refused unless it is made of entries from first to last.
+#[tactic(auto, using(crate::proofs::Rows::formed_items))]
+pub(crate) fn check(row: &[u8]) -> Result<(), Refusal>
+    ensures { is_ok result ≡ well_formed row.now }
+{
+    for entry in (Entries { rest: row }) {
+        entry?;
+    }
+    Ok(())
 }

@@ -5,7 +5,7 @@ ghost use Rattle.site.specs.Spans.{Finds, within};
 ghost use Rattle.shelf.specs.Laws.{shelf_bounded, shelf_held_beyond, shelf_held_short};
 
 use super::copy::copy_from;
-use super::entries::Entries;
+use super::entries::{Entries, check};
 use super::lends::Lends;
 use super::refusal::Refusal;
 use super::sound::Sound;
@@ -13,23 +13,11 @@ use site::site::Site;
 use site::span::Span;
 use site::table::Table;
 
-// A shelf over a lender of octets, as `Shelf<&[u8]>`. The octets are well formed: only `new` and `over` make
-// a shelf.
+// A shelf over a lender of octets, as `Shelf<&[u8]>`. The octets are well formed: only `new` and `over` make a shelf.
 #[derive(Drop)]
 pub struct Shelf<L> {
     lender: L,
     table: Table,
-}
-
-// A row is refused unless it is made of entries from first to last.
-#[tactic(auto, using(crate::proofs::Rows::formed_items))]
-pub(crate) fn check(row: &[u8]) -> Result<(), Refusal>
-    ensures { is_ok result ≡ well_formed row.now }
-{
-    for entry in (Entries { rest: row }) {
-        entry?;
-    }
-    Ok(())
 }
 
 // Where in a row the content of the first entry with a path lies.

@@ -2,12 +2,12 @@
 ghost use Rattle.std.specs.Prelude.{◌≡◌, true, is_ok, MatchResult};
 ghost use Rattle.shelf.specs.Shelves.{well_formed};
 
+use super::entries::check;
 use super::lends::Lends;
 use super::refusal::Refusal;
-use super::shelf::check;
 
-// A lender whose octets are well formed from first to last. Whoever holds one knows it, or a `Shelf<Sound<L>>`, whatever was
-// opened there.
+// A lender whose octets are well formed from first to last, as the holder of one knows. So does the holder of a
+// `Shelf<Sound<L>>`, whatever was opened there.
 #[derive(Drop)]
 pub struct Sound<L: Lends> {
     lender: L,

@@ -2,7 +2,7 @@
 use Rattle.std.proofs.Common.{◌≡◌}
 use Rattle.shelf.specs.Shelves.{items_of, well_formed}
 use Rattle.shelf.proofs.Rows.{all_entries}
-use Rattle.shelf.proofs.shelf.check.Given as goal
+use Rattle.shelf.proofs.entries.check.Given as goal
 
 abbrev pub invariant-loop-entry : goal.invariant-loop-entry
 invariant-loop-entry l =
